@@ -1,0 +1,3 @@
+pub mod Words
+pub mod Variants
+pub mod Answers
