@@ -49,20 +49,17 @@ pub fn last(l: &[u8; 256], variant: u32, state: u8, value: u8) -> u8
 }
 
 // The variant's mapping of four bytes in turn.
-pub fn b_mapping(
-    t: &[u8; 256],
-    l: &[u8; 256],
-    variant: u32,
-    b0: u8,
-    b1: u8,
-    b2: u8,
-    b3: u8,
-) -> u8
+pub fn b_mapping(t: &[u8; 256], l: &[u8; 256], variant: u32, b0: u8, b1: u8, b2: u8, b3: u8) -> u8
     requires table { ⌜ now t ≡ table ⌝ }
     requires last { ⌜ now l ≡ lasts variant ⌝ }
     ensures { λ r. ⌜ r ≡ bucket variant b0 b1 b2 b3 ⌝ }
 {
-    last(l, variant, update(t, update(t, update(t, 0, b0), b1), b2), b3)
+    last(
+        l,
+        variant,
+        update(t, update(t, update(t, 0, b0), b1), b2),
+        b3,
+    )
 }
 
 // The number of the answer, and the mapping's value, 0 beside a refusal.
