@@ -1,1 +1,5 @@
 pub mod Marked
+pub mod Third
+pub mod Agree
+pub mod Inputs
+pub mod Unique

@@ -1,0 +1,19 @@
+-- `finalize::distribute_first` meets its contract.
+-- Assumes nothing.
+use native.Mathlib.Omega.{arith}
+use lib.ListN.{length-take}
+use borrow.Author.Needs.{needs}
+use Rattle.finalize.proofs.distribute_first.Statement.{statement}
+use Rattle.finalize.proofs.distribute_first.Tie as tie
+
+slice-aggregate-distribute : tie.Need-slice-aggregate-distribute
+slice-aggregate-distribute c = simp length-take (omega arith)
+
+distribute-requires : tie.Need-distribute-requires
+distribute-requires c κs = search needs
+
+returns : tie.Need-returns
+returns c = search needs
+
+pub distribute-first-spec : {M : Type 1} → statement M
+distribute-first-spec = tie.close (tie.spec slice-aggregate-distribute distribute-requires returns)

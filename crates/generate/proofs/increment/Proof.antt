@@ -1,0 +1,36 @@
+-- `generate::increment` meets its contract: the counter is read, and one more is stored.
+-- Assumes nothing.
+use Rattle.generate.specs.Feed.{bump}
+use borrow.Author.Needs.{needs}
+use Rattle.generate.proofs.increment.Statement.{statement}
+use Rattle.generate.proofs.increment.Tie as tie
+
+mul-old : tie.Need-mul-old
+mul-old c = search needs
+
+element-copy-out-old : tie.Need-element-copy-out-old
+element-copy-out-old c = search needs
+
+wrapping-add-u32-requires : tie.Need-wrapping-add-u32-requires
+wrapping-add-u32-requires c κs = search needs
+
+mul-counters : tie.Need-mul-counters
+mul-counters c = search needs
+
+element-write-counters : tie.Need-element-write-counters
+element-write-counters c = search needs
+
+returns : tie.Need-returns
+unfolding bump
+returns c = cc
+
+pub increment-spec : {M : Type 1} → statement M
+increment-spec =
+    tie.close
+    (tie.spec
+    mul-old
+    element-copy-out-old
+    wrapping-add-u32-requires
+    mul-counters
+    element-write-counters
+    returns)

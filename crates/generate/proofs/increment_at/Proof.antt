@@ -1,0 +1,17 @@
+-- `generate::increment_at` meets its contract.
+-- Assumes nothing.
+use borrow.Author.Needs.{needs}
+use Rattle.generate.proofs.increment_at.Statement.{statement}
+use Rattle.generate.proofs.increment_at.Tie as tie
+
+b-mapping-requires : tie.Need-b-mapping-requires
+b-mapping-requires c κs = search needs
+
+increment-requires : tie.Need-increment-requires
+increment-requires c κs = search needs
+
+returns : tie.Need-returns
+returns c = cc
+
+pub increment-at-spec : {M : Type 1} → statement M
+increment-at-spec = tie.close (tie.spec b-mapping-requires increment-requires returns)

@@ -1,0 +1,18 @@
+-- `generate::slide` meets its contract.
+-- Assumes nothing.
+use Rattle.generate.proofs.Loops.{ran-one}
+use borrow.Author.Needs.{needs}
+use Rattle.generate.proofs.slide.Statement.{statement}
+use Rattle.generate.proofs.slide.Tie as tie
+
+b-mapping-requires : tie.Need-b-mapping-requires
+b-mapping-requires c κs = search needs
+
+count-requires : tie.Need-count-requires
+count-requires c κs = search needs
+
+returns : tie.Need-returns
+returns c = search ran-one
+
+pub slide-spec : {M : Type 1} → statement M
+slide-spec = tie.close (tie.spec b-mapping-requires count-requires returns)

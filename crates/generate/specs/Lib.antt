@@ -1,0 +1,4 @@
+pub mod Feed
+pub mod Answer
+pub mod Chunks
+pub mod Window

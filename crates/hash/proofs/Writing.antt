@@ -1,0 +1,104 @@
+-- The laws that the writer's functions cite: the stores one after the other, the body's loop, the text's size, and each answer.
+-- Assumes nothing.
+use mathlib.Core.Path.{_≡_, refl, sym, _∙_, ap}
+use mathlib.Core.Bool.{Bool, true, false, not}
+use mathlib.Core.List.{List, [], _∷_, _++_}
+use Prim.Native.Nat.{ℕ, zero, suc, _+_, _*_, _/_, _%_, _≤_, _<_}
+use native.Mathlib.Nat.{zero-add, add-zero}
+use native.Mathlib.Numerals.{add-one}
+use native.Mathlib.Omega.{arith}
+use lib.ListN.{length, getD, set, take, drop, length-append}
+use lib.Seq.{sets, length-sets, sets-eq, take-suc, length-take-le}
+use borrow.Author.Tests.{lt-ltb, le-ltb}
+use Rattle.params.specs.Variants.{known}
+use Rattle.params.specs.Answers.{done, unknownVariant, shortDestination}
+use Rattle.hash.specs.declared.Digest.{Digest}
+use Rattle.hash.specs.declared.SizeAnswer.{SizeAnswer}
+use Rattle.hash.specs.Digest.{usedBytes}
+use Rattle.hash.specs.Text.{sizeOf, highFirst, headText, bodyText, textOf, textSize, Written, writeOf}
+use Rattle.hash.proofs.Tests.{passed, used-most}
+
+-- two lists of stores, one after the other
+sets-append : (vs ws l : List ℕ) (i : ℕ) → sets l i (vs ++ ws) ≡ sets (sets l i vs) (i + length vs) ws
+sets-append [] ws l i = rw add-zero
+sets-append (v ∷ vs) ws l i =
+    let e : i + suc (length vs) ≡ suc i + length vs = omega arith in
+    rw e (sets-append vs ws (set l i v) (suc i))
+
+-- the text of two rows of bytes is that of the first, and then that of the second
+text-append : (xs ys : List ℕ) → bodyText (xs ++ ys) ≡ bodyText xs ++ bodyText ys
+text-append [] ys = refl
+text-append (x ∷ xs) ys = ap (λ (l : List ℕ). highFirst x ++ l) (text-append xs ys)
+
+-- each byte has two digits
+length-bodyText : (xs : List ℕ) → length (bodyText xs) ≡ 2 * length xs
+length-bodyText [] = refl
+length-bodyText (x ∷ xs) = omega (arith, length-bodyText xs)
+
+-- what the body's loop keeps: the digits of the first i bytes are stored
+pub record Puts (destination₀ body : List ℕ) (m i : ℕ) (destination : List ℕ) : Type 0 where
+  pub within : i ≤ m
+  pub long : length destination ≡ length destination₀
+  pub holds : destination ≡ sets destination₀ 8 (bodyText (take i body))
+
+-- at the start nothing is
+pub puts-none : (destination body : List ℕ) (m : ℕ) → Puts destination body m 0 destination
+puts-none destination body m = record { within = omega arith; long = refl; holds = refl }
+
+-- a turn stores those of the next byte
+pub puts-more : (destination₀ body destination l : List ℕ) (m i : ℕ) → Puts destination₀ body m i destination → i < m → m ≤ 64 → length body ≡ 64 → l ≡ sets destination (8 + 2 * i) (highFirst (getD body i 0)) → Puts destination₀ body m (i + 1) l
+puts-more destination₀ body destination l m i p h k b e =
+    let front = bodyText (take i body) in
+    let n : length front ≡ 2 * i = length-bodyText (take i body) ∙ ap (λ (k : ℕ). 2 * k) (length-take-le i body (omega arith)) in
+    let w : l ≡ sets destination₀ 8 (bodyText (take (i + 1) body)) = e ∙ rw (p .holds, add-one i, take-suc body i 0 (omega arith), text-append, sets-append front, n) in
+    record { within = omega arith; long = rw (w, length-sets); holds = w }
+
+-- at the end the whole text of the body is
+pub puts-all : (destination₀ body destination : List ℕ) (m i : ℕ) → Puts destination₀ body m i destination → m ≤ i → destination ≡ sets destination₀ 8 (bodyText (take m body))
+puts-all destination₀ body destination m i p h =
+    let e : i ≡ m = omega (arith, p .within) in
+    rw (← e) (p .holds)
+
+-- the text of a record with a body of 64 bytes has its variant's size
+pub length-text : (d : Digest) → known (d .variant) ≡ true → length (d .body) ≡ 64 → length (textOf d) ≡ textSize (d .variant)
+unfolding textOf
+length-text d k h =
+    let used = take (usedBytes (d .variant)) (d .body) in
+    let n : length used ≡ usedBytes (d .variant) = length-take-le (usedBytes (d .variant)) (d .body) (omega (arith, used-most (d .variant) k)) in
+    omega (arith, length-bodyText used)
+
+-- the answer 6
+pub write-6 : (d : Digest) (b : Bool) (destination : List ℕ) → b ≡ known (d .variant) → not b ≡ true → Written unknownVariant destination (writeOf d destination)
+unfolding writeOf
+write-6 d b destination k e = rw (← k, e) record { answered = refl; left = refl }
+
+-- the answer 7
+pub write-7 : (d : Digest) (b : Bool) (m : ℕ) (destination : List ℕ) → length (d .body) ≡ 64 → b ≡ known (d .variant) → not b ≡ false → m ≡ usedBytes (d .variant) → length destination < 8 + 2 * m → Written shortDestination destination (writeOf d destination)
+unfolding writeOf
+write-7 d b m destination h k e u l =
+    let s = length-text d (passed (known (d .variant)) b k e) h in
+    rw (← k, e, lt-ltb (length destination) (length (textOf d)) (omega arith)) record { answered = refl; left = refl }
+
+-- the answer 0: the stores of the head and of the body leave the text, and after it what was there
+pub write-0 : (d : Digest) (b : Bool) (m : ℕ) (destination l₁ l₂ : List ℕ) → length (d .body) ≡ 64 → b ≡ known (d .variant) → not b ≡ false → m ≡ usedBytes (d .variant) → 8 + 2 * m ≤ length destination → l₁ ≡ sets destination 0 (headText (d .checksum) (d .«length_code») (d .ratios)) → l₂ ≡ sets l₁ 8 (bodyText (take m (d .body))) → Written done l₂ (writeOf d destination)
+unfolding writeOf textOf
+write-0 d b m destination l₁ l₂ h k e u l q₁ q₂ =
+    let s = length-text d (passed (known (d .variant)) b k e) h in
+    let f : length (textOf d) ≤ length destination = omega arith in
+    let head = headText (d .checksum) (d .«length_code») (d .ratios) in
+    let w : l₂ ≡ textOf d ++ drop (length (textOf d)) destination =
+    rw (q₂, q₁, u)
+    (sym (sets-append head (bodyText (take (usedBytes (d .variant)) (d .body))) destination 0)
+    ∙ sets-eq (textOf d) destination 0 (rw zero-add f)
+    ∙ ap (λ (n : ℕ). textOf d ++ drop n destination) (zero-add (length (textOf d)))) in
+    rw (← k, e, le-ltb (length destination) (length (textOf d)) f) record { answered = refl; left = w }
+
+-- the size of a text: 6 for another variant
+pub size-6 : (v : ℕ) (b : Bool) → b ≡ known v → not b ≡ true → record { number = unknownVariant; size = 0 } ≡ sizeOf v
+unfolding sizeOf
+size-6 v b e t = rw (← e, t)
+
+-- and else two characters for each byte, and `T1`
+pub size-0 : (v m : ℕ) (b : Bool) → b ≡ known v → not b ≡ false → m ≡ usedBytes v → record { number = done; size = 8 + 2 * m } ≡ sizeOf v
+unfolding sizeOf
+size-0 v m b e t f = rw (← e, t, f)

@@ -1,0 +1,44 @@
+-- `hash::read_digits` meets its contract: each answer is that of the definition.
+-- Assumes nothing.
+use Rattle.hash.proofs.Tests.{passed}
+use Rattle.hash.proofs.Reading.{digits-9, digits-0}
+use borrow.Author.Needs.{needs}
+use Rattle.hash.proofs.read_digits.Statement.{statement}
+use Rattle.hash.proofs.read_digits.Tie as tie
+
+all-digits-requires : tie.Need-all-digits-requires
+all-digits-requires c κs = search needs
+
+refused-requires : tie.Need-refused-requires
+refused-requires c κs = search needs
+
+returns : tie.Need-returns
+returns c = search digits-9
+
+body-from-requires : tie.Need-body-from-requires
+body-from-requires c κs = search (passed, needs)
+
+low-pair-requires : tie.Need-low-pair-requires
+low-pair-requires c κs = search (passed, needs)
+
+low-pair-requires-2 : tie.Need-low-pair-requires-2
+low-pair-requires-2 c κs = search (passed, needs)
+
+low-pair-requires-3 : tie.Need-low-pair-requires-3
+low-pair-requires-3 c κs = search (passed, needs)
+
+returns-2 : tie.Need-returns-2
+returns-2 c = search digits-0
+
+pub read-digits-spec : {M : Type 1} → statement M
+read-digits-spec =
+    tie.close
+    (tie.spec
+    all-digits-requires
+    refused-requires
+    returns
+    body-from-requires
+    low-pair-requires
+    low-pair-requires-2
+    low-pair-requires-3
+    returns-2)

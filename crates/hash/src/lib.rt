@@ -1,0 +1,319 @@
+// The digest record and its text (hash.rs, hash/checksum.rs, hash/qratios.rs, parse/hex_str.rs).
+//
+// A digest is the checksum, the code of the length's class, the two ratios of the quartiles and the body, beside the variant that
+// it is of. Its text is `T1` and then two digits for each byte, 0 to 9 and A to F. The low digit of the checksum, of the length
+// code and of the ratios comes first, and of the ratios that is the digit of q1. The body is written as the one large number that
+// it is, so each byte has its high digit first. The body uses the first 12, 32 or 64 of its 64 bytes, and the text has the used
+// ones alone: 32, 72 or 136 characters.
+//
+// The reader takes that form and no other. It tests the size, splits `T1` off, and what is left is one function's work
+// (`read_digits`), in which `is_digit` alone judges a character.
+ghost use mathlib.Core.Path.{_≡_};
+ghost use mathlib.Core.Bool.{true};
+ghost use mathlib.Core.List.{_∷_, []};
+ghost use Prim.Native.Nat.{_+_, _*_, _≤_, _<_};
+ghost use lib.ListN.{length, getD, take};
+ghost use lib.Seq.{sets};
+ghost use Rattle.params.specs.Variants.{known};
+ghost use Rattle.hash.specs.Digest.{usedBytes, zeroDigest, firstEqual, sameOf};
+ghost use Rattle.hash.specs.Text.{sizeOf, digitOf, lowFirst, highFirst, headText, bodyText, Written, writeOf};
+ghost use Rattle.hash.specs.Reading.{isDigit, valueOf, allDigits, beginsT1, lowPair, highPair, bodyFrom, refusedRead, digitsOf, readOf};
+
+// The body stands first, so that a copy of it lies on a word's bounds. The ratio of q1 is in the low four bits of `ratios`.
+#[repr(C)]
+pub struct Digest {
+    pub body: [u8; 64],
+    pub variant: u32,
+    pub checksum: u8,
+    pub length_code: u8,
+    pub ratios: u8,
+}
+
+// The number of the answer, and whether two digests are the same.
+pub struct SameAnswer {
+    pub number: u32,
+    pub same: bool,
+}
+
+// The number of the answer, and the size of a text, 0 beside a refusal.
+pub struct SizeAnswer {
+    pub number: u32,
+    pub size: usize,
+}
+
+// The number of the answer, and the digest that was read; all zero beside a refusal.
+pub struct ReadAnswer {
+    pub number: u32,
+    pub digest: Digest,
+}
+
+// The digest that stands beside a refusal.
+pub fn zero_digest() -> Digest
+    ensures { λ r. ⌜ r ≡ zeroDigest ⌝ }
+{
+    Digest {
+        body: [0; 64],
+        variant: 0,
+        checksum: 0,
+        length_code: 0,
+        ratios: 0,
+    }
+}
+
+// The bytes of the body that a variant uses.
+fn used_bytes(variant: u32) -> usize
+    requires { ⌜ known variant ≡ true ⌝ }
+    ensures { λ r. ⌜ (r ≡ usedBytes variant) × (r ≤ 64) ⌝ }
+{
+    (variant / 4) as usize
+}
+
+// The size of a variant's text; 6 for another variant.
+pub fn text_size(variant: u32) -> SizeAnswer
+    ensures { λ r. ⌜ r ≡ sizeOf variant ⌝ }
+{
+    if !params::is_known(variant) {
+        return SizeAnswer {
+            number: params::UNKNOWN_VARIANT,
+            size: 0,
+        };
+    }
+    let m = used_bytes(variant);
+    SizeAnswer {
+        number: params::DONE,
+        size: 8 + 2 * m,
+    }
+}
+
+// Whether the first m bytes of two bodies are equal.
+fn first_equal(x: &[u8; 64], y: &[u8; 64], m: usize) -> bool
+    requires { ⌜ m ≤ 64 ⌝ }
+    ensures { λ r. ⌜ r ≡ firstEqual m (now (x .entry)) (now (y .entry)) ⌝ }
+{
+    let mut equal = true;
+    let mut i = 0;
+    while i < m {
+        equal = equal & (x[i] == y[i]);
+        i += 1;
+    }
+    equal
+}
+
+// Whether two digests are of one variant and equal in their used fields; 6 where one is of none.
+pub fn same(a: Digest, b: Digest) -> SameAnswer
+    ensures { λ r. ⌜ r ≡ sameOf a b ⌝ }
+{
+    if !params::is_known(a.variant) {
+        return SameAnswer {
+            number: params::UNKNOWN_VARIANT,
+            same: false,
+        };
+    }
+    if !params::is_known(b.variant) {
+        return SameAnswer {
+            number: params::UNKNOWN_VARIANT,
+            same: false,
+        };
+    }
+    let m = used_bytes(a.variant);
+    let bodies = first_equal(&a.body, &b.body, m);
+    SameAnswer {
+        number: params::DONE,
+        same: (a.variant == b.variant)
+            & (a.checksum == b.checksum)
+            & (a.length_code == b.length_code)
+            & (a.ratios == b.ratios)
+            & bodies,
+    }
+}
+
+// The character of a digit.
+fn digit_of(n: u8) -> u8
+    requires { ⌜ n < 16 ⌝ }
+    ensures { λ r. ⌜ r ≡ digitOf n ⌝ }
+{
+    if n < 10 { 48 + n } else { 55 + n }
+}
+
+// Stores two characters at a place.
+fn put(destination: &mut [u8], at: usize, a: u8, b: u8)
+    requires { ⌜ at + 2 ≤ length (now destination) ⌝ }
+    ensures { λ _. ⌜ now (destination .exit) ≡ sets (now (destination .entry)) at (a ∷ b ∷ []) ⌝ }
+{
+    destination[at] = a;
+    destination[at + 1] = b;
+}
+
+// Stores a byte's digits, the low one first.
+fn put_low(destination: &mut [u8], at: usize, b: u8)
+    requires { ⌜ at + 2 ≤ length (now destination) ⌝ }
+    ensures { λ _. ⌜ now (destination .exit) ≡ sets (now (destination .entry)) at (lowFirst b) ⌝ }
+{
+    put(destination, at, digit_of(b % 16), digit_of(b / 16));
+}
+
+// Stores a byte's digits, the high one first.
+fn put_high(destination: &mut [u8], at: usize, b: u8)
+    requires { ⌜ at + 2 ≤ length (now destination) ⌝ }
+    ensures { λ _. ⌜ now (destination .exit) ≡ sets (now (destination .entry)) at (highFirst b) ⌝ }
+{
+    put(destination, at, digit_of(b / 16), digit_of(b % 16));
+}
+
+// Stores `T1` and the three fields before the body.
+fn put_head(destination: &mut [u8], checksum: u8, length_code: u8, ratios: u8)
+    requires { ⌜ 8 ≤ length (now destination) ⌝ }
+    ensures { λ _. ⌜ now (destination .exit) ≡ sets (now (destination .entry)) 0 (headText checksum «length_code» ratios) ⌝ }
+{
+    put(destination, 0, 84, 49);
+    put_low(destination, 2, checksum);
+    put_low(destination, 4, length_code);
+    put_low(destination, 6, ratios);
+}
+
+// Stores the digits of the first m bytes of a body, from place 8 on.
+fn put_body(destination: &mut [u8], body: &[u8; 64], m: usize)
+    requires { ⌜ (m ≤ 64) × (length (now body) ≡ 64) × (8 + 2 * m ≤ length (now destination)) ⌝ }
+    ensures { λ _. ⌜ now (destination .exit) ≡ sets (now (destination .entry)) 8 (bodyText (take m (now (body .entry)))) ⌝ }
+{
+    let mut i = 0;
+    while i < m {
+        put_high(destination, 8 + 2 * i, body[i]);
+        i += 1;
+    }
+}
+
+// Writes the text at the front of the destination; 6, then 7, with nothing written.
+pub fn write_text(digest: Digest, destination: &mut [u8]) -> u32
+    ensures { λ r. ⌜ Written r (now (destination .exit)) (writeOf digest (now (destination .entry))) ⌝ }
+{
+    if !params::is_known(digest.variant) {
+        return params::UNKNOWN_VARIANT;
+    }
+    let m = used_bytes(digest.variant);
+    if destination.len() < 8 + 2 * m {
+        return params::SHORT_DESTINATION;
+    }
+    put_head(
+        destination,
+        digest.checksum,
+        digest.length_code,
+        digest.ratios,
+    );
+    put_body(destination, &digest.body, m);
+    params::DONE
+}
+
+// Whether a character is a digit: 0 to 9 or A to F.
+fn is_digit(c: u8) -> bool
+    ensures { λ r. ⌜ r ≡ isDigit c ⌝ }
+{
+    ((48 <= c) & (c <= 57)) | ((65 <= c) & (c <= 70))
+}
+
+// The value of a digit.
+fn value_of(c: u8) -> u8
+    requires { ⌜ isDigit c ≡ true ⌝ }
+    ensures { λ r. ⌜ (r ≡ valueOf c) × (r < 16) ⌝ }
+{
+    if c <= 57 { c - 48 } else { c - 55 }
+}
+
+// Whether there are digits alone.
+fn all_digits(t: &[u8]) -> bool
+    ensures { λ r. ⌜ r ≡ allDigits (now (t .entry)) ⌝ }
+{
+    let mut good = true;
+    let mut i = 0;
+    while i < t.len() {
+        good = good & is_digit(t[i]);
+        i += 1;
+    }
+    good
+}
+
+// The byte whose low digit stands at a place, and its high digit after it.
+fn low_pair(t: &[u8], at: usize) -> u8
+    requires { ⌜ (allDigits (now t) ≡ true) × (at + 2 ≤ length (now t)) ⌝ }
+    ensures { λ r. ⌜ r ≡ lowPair (now (t .entry)) at ⌝ }
+{
+    value_of(t[at]) + 16 * value_of(t[at + 1])
+}
+
+// The byte whose high digit stands at a place, and its low digit after it.
+fn high_pair(t: &[u8], at: usize) -> u8
+    requires { ⌜ (allDigits (now t) ≡ true) × (at + 2 ≤ length (now t)) ⌝ }
+    ensures { λ r. ⌜ r ≡ highPair (now (t .entry)) at ⌝ }
+{
+    16 * value_of(t[at]) + value_of(t[at + 1])
+}
+
+// The body: m bytes from place 6 on, and 0 after them.
+fn body_from(t: &[u8], m: usize) -> [u8; 64]
+    requires { ⌜ (allDigits (now t) ≡ true) × (m ≤ 64) × (length (now t) ≡ 6 + 2 * m) ⌝ }
+    ensures { λ r. ⌜ r ≡ bodyFrom (now (t .entry)) ⌝ }
+{
+    let mut body = [0u8; 64];
+    let mut i = 0;
+    while i < m {
+        body[i] = high_pair(t, 6 + 2 * i);
+        i += 1;
+    }
+    body
+}
+
+// A refusal.
+fn refused(number: u32) -> ReadAnswer
+    ensures { λ r. ⌜ r ≡ refusedRead number ⌝ }
+{
+    ReadAnswer {
+        number,
+        digest: zero_digest(),
+    }
+}
+
+// Reads what stands after `T1`, two characters for each byte; 9 where one of them is no digit.
+fn read_digits(variant: u32, m: usize, t: &[u8]) -> ReadAnswer
+    requires { ⌜ (m ≤ 64) × (length (now t) ≡ 6 + 2 * m) ⌝ }
+    ensures { λ r. ⌜ r ≡ digitsOf variant (now (t .entry)) ⌝ }
+{
+    if !all_digits(t) {
+        return refused(params::WRONG_CHARACTER);
+    }
+    let body = body_from(t, m);
+    ReadAnswer {
+        number: params::DONE,
+        digest: Digest {
+            body,
+            variant,
+            checksum: low_pair(t, 0),
+            length_code: low_pair(t, 2),
+            ratios: low_pair(t, 4),
+        },
+    }
+}
+
+// Whether a text begins `T1`.
+fn begins_t1(text: &[u8]) -> bool
+    requires { ⌜ 2 ≤ length (now text) ⌝ }
+    ensures { λ r. ⌜ r ≡ beginsT1 (now (text .entry)) ⌝ }
+{
+    (text[0] == 84) & (text[1] == 49)
+}
+
+// Reads the text of a variant; 6, then 8, then 9, with an all-zero digest.
+pub fn read_text(variant: u32, text: &[u8]) -> ReadAnswer
+    ensures { λ r. ⌜ r ≡ readOf variant (now (text .entry)) ⌝ }
+{
+    if !params::is_known(variant) {
+        return refused(params::UNKNOWN_VARIANT);
+    }
+    let m = used_bytes(variant);
+    if text.len() != 8 + 2 * m {
+        return refused(params::WRONG_SIZE);
+    }
+    if !begins_t1(text) {
+        return refused(params::WRONG_CHARACTER);
+    }
+    read_digits(variant, m, &text[2..])
+}

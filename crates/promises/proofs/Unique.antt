@@ -1,0 +1,185 @@
+-- Every public promise leaves one answer and one content of lent memory: two that meet it are equal.
+-- Assumes nothing.
+use mathlib.Core.Path.{_≡_, refl, sym, _∙_, ap}
+use mathlib.Core.Bool.{Bool, true, false, true≢false, false≢true}
+use mathlib.Core.List.{List}
+use Prim.Native.Nat.{ℕ}
+use native.Mathlib.Omega.{arith}
+use Rattle.params.specs.Variants.{known}
+use Rattle.pearson.specs.declared.Mapped.{Mapped}
+use Rattle.pearson.specs.Table.{table}
+use Rattle.pearson.specs.Mapping.{after, own, bucket, lasts, mapped}
+use Rattle.length.specs.declared.Coded.{Coded}
+use Rattle.length.specs.declared.Limits.{Limits}
+use Rattle.length.specs.Code.{coded}
+use Rattle.length.specs.Limits.{limitsOf}
+use Rattle.quartile.specs.declared.Quartiles.{Quartiles}
+use Rattle.quartile.specs.declared.QuartilesAnswer.{QuartilesAnswer}
+use Rattle.quartile.specs.Counts.{countLe, nonZero}
+use Rattle.quartile.specs.Quartile.{quartiles, answered}
+use Rattle.qratios.specs.declared.RatiosAnswer.{RatiosAnswer}
+use Rattle.qratios.specs.declared.ByteAnswer.{ByteAnswer}
+use Rattle.qratios.specs.Ratios.{ratiosOf, byteOf}
+use Rattle.body.specs.Body.{bodyOf}
+use Rattle.hash.specs.declared.Digest.{Digest}
+use Rattle.hash.specs.declared.SameAnswer.{SameAnswer}
+use Rattle.hash.specs.declared.SizeAnswer.{SizeAnswer}
+use Rattle.hash.specs.declared.ReadAnswer.{ReadAnswer}
+use Rattle.hash.specs.Digest.{sameOf}
+use Rattle.hash.specs.Text.{sizeOf, Wrote, writeOf, Written}
+use Rattle.hash.specs.Reading.{readOf}
+use Rattle.generate.specs.declared.State.{State}
+use Rattle.generate.specs.declared.StateAnswer.{StateAnswer}
+use Rattle.generate.specs.declared.Processed.{Processed}
+use Rattle.generate.specs.declared.Processed.the-variants.{Known, Unknown, UnknownVariant, UnreachedState}
+use Rattle.generate.specs.Answer.{LengthAnswer, marked, made, updated, answerOf, processed}
+use Rattle.options.specs.declared.Options.{Options}
+use Rattle.options.specs.declared.Chosen.{Chosen}
+use Rattle.options.specs.Options.{clear, chosen}
+use Rattle.finalize.specs.declared.Finalized.{Finalized}
+use Rattle.finalize.specs.Final.{finalizedWith, finalized}
+use Rattle.saltcurtain.specs.Entries.{digested, rewritten, ratioed, classed}
+
+-- a promise of an answer leaves one
+abbrev Unique : (A : Type 0) → (A → Type 0) → Type 0
+Unique A P = (a b : A) → P a → P b → a ≡ b
+
+-- an equation with a definition leaves one
+one : {A : Type 0} (d : A) → Unique A (λ a. a ≡ d)
+one d a b p q = p ∙ sym q
+
+-- a promise of a number and of lent memory leaves one of each
+abbrev UniqueWrite : Wrote → Type 0
+UniqueWrite w = (a b : ℕ) (k l : List ℕ) → Written a k w → Written b l w → (a ≡ b) × (k ≡ l)
+
+one-write : (w : Wrote) → UniqueWrite w
+one-write w a b k l p q = (p .answered ∙ sym (q .answered), p .left ∙ sym (q .left))
+
+-- ---- params
+is-known : (v : ℕ) → Unique Bool (λ r. r ≡ known v)
+is-known v = one (known v)
+
+-- ---- pearson
+subst-table : Unique (List ℕ) (λ r. r ≡ table)
+subst-table = one table
+
+last-table : (v : ℕ) → Unique (List ℕ) (λ r. r ≡ lasts v)
+last-table v = one (lasts v)
+
+update-byte : (s x : ℕ) → Unique ℕ (λ r. r ≡ after s x)
+update-byte s x = one (after s x)
+
+last-byte : (v s x : ℕ) → Unique ℕ (λ r. r ≡ own v (after s x))
+last-byte v s x = one (own v (after s x))
+
+b-mapping : (v a b c d : ℕ) → Unique ℕ (λ r. r ≡ bucket v a b c d)
+b-mapping v a b c d = one (bucket v a b c d)
+
+mapping : (v a b c d : ℕ) → Unique Mapped (λ r. r ≡ mapped v a b c d)
+mapping v a b c d = one (mapped v a b c d)
+
+-- ---- length
+length-code : (n : ℕ) → Unique Coded (λ r. r ≡ coded n)
+length-code n = one (coded n)
+
+limits-of : (v : ℕ) → Unique Limits (λ r. r ≡ limitsOf v)
+limits-of v = one (limitsOf v)
+
+-- ---- quartile
+count-le : (v : ℕ) (used : List ℕ) → Unique ℕ (λ r. r ≡ countLe v used)
+count-le v used = one (countLe v used)
+
+non-zero : (used : List ℕ) → Unique ℕ (λ r. r ≡ nonZero used)
+non-zero used = one (nonZero used)
+
+quartiles-of : (used : List ℕ) → Unique Quartiles (λ r. r ≡ quartiles used)
+quartiles-of used = one (quartiles used)
+
+variant-quartiles : (v : ℕ) (counters : List ℕ) → Unique QuartilesAnswer (λ r. r ≡ answered v counters)
+variant-quartiles v counters = one (answered v counters)
+
+-- ---- qratios
+quartile-ratios : (q1 q2 q3 : ℕ) → Unique RatiosAnswer (λ r. r ≡ ratiosOf q1 q2 q3)
+quartile-ratios q1 q2 q3 = one (ratiosOf q1 q2 q3)
+
+ratios-byte : (q1 q2 q3 : ℕ) (integer : Bool) → Unique ByteAnswer (λ r. r ≡ byteOf integer q1 q2 q3)
+ratios-byte q1 q2 q3 integer = one (byteOf integer q1 q2 q3)
+
+-- ---- body and hash
+body-of : (q : Quartiles) (used : List ℕ) → Unique (List ℕ) (λ r. r ≡ bodyOf q used)
+body-of q used = one (bodyOf q used)
+
+same : (a b : Digest) → Unique SameAnswer (λ r. r ≡ sameOf a b)
+same a b = one (sameOf a b)
+
+text-size : (v : ℕ) → Unique SizeAnswer (λ r. r ≡ sizeOf v)
+text-size v = one (sizeOf v)
+
+write-text : (d : Digest) (lent : List ℕ) → UniqueWrite (writeOf d lent)
+write-text d lent = one-write (writeOf d lent)
+
+read-text : (v : ℕ) (text : List ℕ) → Unique ReadAnswer (λ r. r ≡ readOf v text)
+read-text v text = one (readOf v text)
+
+-- ---- generate
+new-state : (v : ℕ) → Unique StateAnswer (λ r. r ≡ made v)
+new-state v = one (made v)
+
+is-marked : (l n : ℕ) → Unique Bool (λ r. r ≡ marked l n)
+is-marked l n = one (marked l n)
+
+update : (s : State) (bytes : List ℕ) → Unique StateAnswer (λ r. r ≡ updated s bytes)
+update s bytes = one (updated s bytes)
+
+-- the cases of the processed length stand for different answers
+cases-differ : (a b : Processed) → answerOf a ≡ answerOf b → a ≡ b
+cases-differ (Known n) (Known m) e = ap Known (ap (λ (r : LengthAnswer). r .length) e)
+cases-differ (Known n) Unknown e = absurd (true≢false (ap (λ (r : LengthAnswer). r .isKnown) e))
+cases-differ (Known n) UnknownVariant e = absurd (true≢false (ap (λ (r : LengthAnswer). r .isKnown) e))
+cases-differ (Known n) UnreachedState e = absurd (true≢false (ap (λ (r : LengthAnswer). r .isKnown) e))
+cases-differ Unknown (Known m) e = absurd (false≢true (ap (λ (r : LengthAnswer). r .isKnown) e))
+cases-differ Unknown Unknown e = refl
+cases-differ Unknown UnknownVariant e = let z : _≡_ {A = ℕ} 0 6 = ap (λ (r : LengthAnswer). r .number) e in absurd (omega arith)
+cases-differ Unknown UnreachedState e = let z : _≡_ {A = ℕ} 0 19 = ap (λ (r : LengthAnswer). r .number) e in absurd (omega arith)
+cases-differ UnknownVariant (Known m) e = absurd (false≢true (ap (λ (r : LengthAnswer). r .isKnown) e))
+cases-differ UnknownVariant Unknown e = let z : _≡_ {A = ℕ} 6 0 = ap (λ (r : LengthAnswer). r .number) e in absurd (omega arith)
+cases-differ UnknownVariant UnknownVariant e = refl
+cases-differ UnknownVariant UnreachedState e = let z : _≡_ {A = ℕ} 6 19 = ap (λ (r : LengthAnswer). r .number) e in absurd (omega arith)
+cases-differ UnreachedState (Known m) e = absurd (false≢true (ap (λ (r : LengthAnswer). r .isKnown) e))
+cases-differ UnreachedState Unknown e = let z : _≡_ {A = ℕ} 19 0 = ap (λ (r : LengthAnswer). r .number) e in absurd (omega arith)
+cases-differ UnreachedState UnknownVariant e = let z : _≡_ {A = ℕ} 19 6 = ap (λ (r : LengthAnswer). r .number) e in absurd (omega arith)
+cases-differ UnreachedState UnreachedState e = refl
+
+processed-len : (s : State) → Unique Processed (λ r. answerOf r ≡ processed s)
+processed-len s a b p q = cases-differ a b (p ∙ sym q)
+
+-- ---- options
+new-options : Unique Options (λ r. r ≡ clear)
+new-options = one clear
+
+options-of : (n : ℕ) → Unique Chosen (λ r. r ≡ chosen n)
+options-of n = one (chosen n)
+
+-- each of the five setters, by value or of a lent record
+setter : (with : Options → Bool → Options) (o : Options) (v : Bool) → Unique Options (λ r. r ≡ with o v)
+setter with o v = one (with o v)
+
+-- ---- finalize
+finalize-with : (s : State) (o : Options) → Unique Finalized (λ r. r ≡ finalizedWith s o)
+finalize-with s o = one (finalizedWith s o)
+
+finalize : (s : State) (n : ℕ) → Unique Finalized (λ r. r ≡ finalized s n)
+finalize s n = one (finalized s n)
+
+-- ---- the C entry points
+digest : (v n : ℕ) (bytes lent : List ℕ) → UniqueWrite (digested v n bytes lent)
+digest v n bytes lent = one-write (digested v n bytes lent)
+
+rewrite : (v : ℕ) (text lent : List ℕ) → UniqueWrite (rewritten v text lent)
+rewrite v text lent = one-write (rewritten v text lent)
+
+ratios : (q1 q2 q3 : ℕ) (lent : List ℕ) → UniqueWrite (ratioed q1 q2 q3 lent)
+ratios q1 q2 q3 lent = one-write (ratioed q1 q2 q3 lent)
+
+code : (n : ℕ) (lent : List ℕ) → UniqueWrite (classed n lent)
+code n lent = one-write (classed n lent)

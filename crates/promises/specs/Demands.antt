@@ -1,0 +1,69 @@
+-- What is promised of whole digests, as statements: when the two ratio paths agree, that a cutting does not matter, and which number an
+-- input gets.
+-- Assumes nothing.
+use Prim.Native.Nat.{ℕ, _+_, _≤_, _<_}
+use mathlib.Core.Bool.{Bool, true, false, cond, not}
+use mathlib.Core.List.{List}
+use mathlib.Core.Path.{_≡_}
+use lib.Dec.{ltb, eqb}
+use lib.ListN.{length, take}
+use Rattle.params.specs.Variants.{known}
+use Rattle.params.specs.Answers.{done, tooLargeInput, tooSmallInput, threeQuarterEmpty, halfEmpty, unknownVariant, unknownOption}
+use Rattle.length.specs.Limits.{maximum}
+use Rattle.quartile.specs.Quartile.{quartiles}
+use Rattle.hash.specs.Digest.{zeroDigest}
+use Rattle.generate.specs.declared.State.{State}
+use Rattle.generate.specs.Feed.{fresh, feed}
+use Rattle.generate.specs.Chunks.{joined, feeds}
+use Rattle.options.specs.declared.Options.{Options}
+use Rattle.options.specs.Options.{flags, has, chosen}
+use Rattle.finalize.specs.declared.Finalized.{Finalized}
+use Rattle.finalize.specs.Final.{isTooSmall, isThreeQuarterEmpty, isHalfEmpty, finalizedWith, finalized, digestOf}
+
+-- ---- when the two builds agree
+
+-- the longest input of a variant for which both ratio paths give one answer
+unfoldable pub bound : ℕ → ℕ
+bound v = cond (eqb v 48) 363_512 (cond (eqb v 128) 922_755 1_817_544)
+
+-- Demand 3: for every input within the bound, options that differ in the ratio flag alone give the same digest or the same refusal
+abbrev pub PathsAgree : Type 0
+PathsAgree = (v : ℕ) (bytes : List ℕ) (c s h q : Bool) → length bytes ≤ bound v
+    → finalizedWith (feed bytes (fresh v)) (flags c false s h q) ≡ finalizedWith (feed bytes (fresh v)) (flags c true s h q)
+
+-- the same of option numbers: 2 is the ratio flag
+abbrev pub NumbersAgree : Type 0
+NumbersAgree = (v n : ℕ) (bytes : List ℕ) → has 2 n ≡ false → length bytes ≤ bound v → digestOf v n bytes ≡ digestOf v (n + 2) bytes
+
+-- ---- cutting
+
+-- any cutting of the same bytes, empty chunks included, gives the same digest or refusal
+abbrev pub AnyCutting : Type 0
+AnyCutting = (v n : ℕ) (chunks : List (List ℕ)) → finalized (feeds chunks (fresh v)) n ≡ digestOf v n (joined chunks)
+
+-- ---- the number that an input gets
+
+-- the used counters of an input
+abbrev pub usedOf : ℕ → List ℕ → List ℕ
+usedOf v bytes = take v (feed bytes (fresh v) .counters)
+
+-- the number under known flags: the length decides, then the third quartile, then the count of counters that are not 0
+unfoldable pub verdictWith : ℕ → Options → List ℕ → ℕ
+verdictWith v o bytes =
+    cond (ltb (maximum v) (length bytes)) tooLargeInput
+    (cond (isTooSmall v (length bytes) o) tooSmallInput
+    (cond (isThreeQuarterEmpty (quartiles (usedOf v bytes)) o) threeQuarterEmpty
+    (cond (isHalfEmpty (usedOf v bytes) v o) halfEmpty
+    done)))
+
+-- 10 and 6 before it
+unfoldable pub verdict : ℕ → ℕ → List ℕ → ℕ
+verdict v n bytes = cond (ltb 31 n) unknownOption (cond (known v) (verdictWith v (chosen n .options) bytes) unknownVariant)
+
+-- each number is given exactly on its condition; 5 and 19 are no conditions of an input
+abbrev pub ExactNumbers : Type 0
+ExactNumbers = (v n : ℕ) (bytes : List ℕ) → digestOf v n bytes .number ≡ verdict v n bytes
+
+-- a refusal carries an all-zero digest
+abbrev pub ZeroBesideRefusal : Type 0
+ZeroBesideRefusal = (s : State) (n : ℕ) → (finalized s n .number ≡ done → ⊥) → finalized s n .digest ≡ zeroDigest

@@ -1,0 +1,5 @@
+pub mod Counts
+pub mod Order
+pub mod Weight
+pub mod Three
+pub mod Laws

@@ -1,0 +1,66 @@
+/* Saltcurtain: the TLSH fuzzy hash, proved. C entry points.
+ *
+ * Every function answers a number: 0, or one refusal. A refusal writes nothing.
+ *
+ *    0  done
+ *    1  the input is longer than the variant takes
+ *    2  the input is shorter than the variant and the mode take
+ *    3  three quarters of the counters are empty (a dead file gets this)
+ *    4  half of the counters are empty
+ *    5  no length code
+ *    6  the variant is not 48, 128 or 256
+ *    7  the destination is shorter than the text
+ *    8  the text is of the wrong size
+ *    9  the text doesn't begin T1, or a character isn't 0-9 or A-F
+ *   10  an unknown option bit
+ *   11  the quartiles are not ordered, or the third is 0
+ *
+ * variant   48 (short), 128 (normal) or 256 (long): the number of used buckets
+ * options   added: 1 conservative minimum lengths, 2 integer ratios, and three that let through what is refused otherwise:
+ *           4 small files, 8 half empty counters, 16 three quarters empty counters. 0 is the default.
+ *
+ * A slice is a pointer and a number of bytes. A null pointer is allowed where the number is 0. What a caller has to see to, and
+ * no function can judge: a slice's bytes can be read, a destination's can be written, and a destination overlaps no other
+ * argument. Nothing is allocated and nothing is kept between calls, so calls from several threads do not meet.
+ */
+#ifndef SALTCURTAIN_H
+#define SALTCURTAIN_H
+
+#include <stddef.h>
+#include <stdint.h>
+
+#ifdef __cplusplus
+extern "C" {
+#endif
+
+/* The number of characters of a variant's text, which no zero byte ends. */
+#define SALTCURTAIN_TEXT_48 32
+#define SALTCURTAIN_TEXT_128 72
+#define SALTCURTAIN_TEXT_256 136
+
+/* Writes the text of the input's digest at the front of the destination; later bytes of it stay.
+ * Refusals, in this order: 10, 6, 7, 1, 2, 5, 3, 4. */
+uint32_t saltcurtain_digest(uint32_t variant, uint32_t options, const uint8_t *input, size_t input_len,
+                            uint8_t *destination, size_t destination_len);
+
+/* The same, with the input fed in pieces of so many bytes; 0 means in one piece. The answer does not depend on it. */
+uint32_t saltcurtain_digest_pieces(uint32_t variant, uint32_t options, size_t piece, const uint8_t *input,
+                                   size_t input_len, uint8_t *destination, size_t destination_len);
+
+/* Reads a digest's text and writes it again at the front of the destination; later bytes of it stay.
+ * Refusals, in this order: 6, 7, 8, 9. */
+uint32_t saltcurtain_rewrite(uint32_t variant, const uint8_t *text, size_t text_len, uint8_t *destination,
+                             size_t destination_len);
+
+/* Writes four numbers: the bits of the single-precision quotients 100 * q1 / q3 and 100 * q2 / q3, then their whole parts.
+ * Refusal: 11, unless q1 <= q2 <= q3 and q3 >= 1. */
+uint32_t saltcurtain_ratios(uint32_t q1, uint32_t q2, uint32_t q3, uint32_t out[4]);
+
+/* Writes one number: the code of a length. Refusal: 5. */
+uint32_t saltcurtain_length_code(uint32_t n, uint32_t out[1]);
+
+#ifdef __cplusplus
+}
+#endif
+
+#endif
