@@ -1,0 +1,13 @@
+#!/usr/bin/env bash
+# host/bench.sh [PROCESSES]: the benchmark in several processes (7), each with its addresses not randomised, and a table of medians and
+# ratios. What each process measured is left in target/host/bench.txt. Exit status: 77 skipped for want of the oracle.
+set -euo pipefail
+here=$(cd "$(dirname "$0")" && pwd)
+"$here/build.sh" || exit $?
+bench=$here/../target/host/release/bench
+out=$here/../target/host/bench.txt
+: >"$out"
+for _ in $(seq "${1:-7}"); do
+    setarch -R "$bench" run >>"$out"
+done
+"$bench" summary <"$out"

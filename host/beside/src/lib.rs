@@ -1,0 +1,7 @@
+//! Saltcurtain beside fast-tlsh and Trend Micro's C++. The programs are `beside` (comparison and stored list), `bench` and `drive`.
+
+pub mod inputs;
+pub mod judge;
+pub mod mapped;
+pub mod oracle;
+pub mod random;
