@@ -82,3 +82,12 @@ module _ {v : ℕ} {xs cs₀ : List ℕ} {w₀ : Window} {i : ℕ} {cs : List �
         window = rw (drop-of-length-le xs {i = i} h) at (p .window);
         counters = rw (drop-of-length-le xs {i = i} h) at (p .counters);
       }
+
+-- a tail of four bytes is its four bytes
+pub four : (t : List ℕ) → length t ≡ 4 → getD t 0 0 ∷ getD t 1 0 ∷ getD t 2 0 ∷ getD t 3 0 ∷ [] ≡ t
+four [] e = absurd (omega arith)
+four (a ∷ []) e = absurd (omega arith)
+four (a ∷ b ∷ []) e = absurd (omega arith)
+four (a ∷ b ∷ c ∷ []) e = absurd (omega arith)
+four (a ∷ b ∷ c ∷ d ∷ []) e = refl
+four (a ∷ b ∷ c ∷ d ∷ f ∷ t) e = absurd (omega arith)

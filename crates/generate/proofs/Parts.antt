@@ -7,13 +7,14 @@ use Prim.Native.Nat.{ℕ, zero, suc, _+_, _-_, _≤_, _<_, min}
 use native.Mathlib.Nat.{add-zero}
 use native.Mathlib.Omega.{arith}
 use native.Mathlib.Decide.{decLt}
-use lib.ListN.{length, getD, take, drop, length-take, length-drop, drop-of-length-le}
+use lib.ListN.{length, take, drop, length-take, length-drop, drop-of-length-le}
 use lib.Seq.{sets, take-nil}
 use Rattle.generate.specs.declared.State.{State}
 use Rattle.generate.specs.declared.Window.{Window}
+use Rattle.generate.specs.declared.Cuts.{Cuts}
 use Rattle.generate.specs.Feed.{filled, slid, stop, feed}
 use Rattle.generate.specs.Answer.{marked}
-use Rattle.generate.specs.Window.{moved, moves, hit, hits, Ran}
+use Rattle.generate.specs.Window.{moved, moves, hit, hits, Ran, Opened, CutsOf}
 use Rattle.generate.proofs.Step.{step-filled, step-slid, cut-at, past-the-stop}
 use Rattle.generate.proofs.Marks.{unmarked-fine}
 
@@ -24,13 +25,21 @@ tail-bound l n e = unmarked-fine l n e .few
 pub length-bound : (l n : ℕ) → marked l n ≡ false → l ≤ stop
 length-bound l n e = unmarked-fine l n e .stops
 
--- a part of at most so many bytes has that length
-pub part-length : (xs : List ℕ) (n k : ℕ) → n ≡ min (length xs) k → n ≡ length (take n xs)
-part-length xs n k e = omega (arith, length-take n xs)
+-- a part of at most m bytes has the length that it is cut at
+least-length : (xs : List ℕ) (n m : ℕ) → n ≡ min (length xs) m → n ≡ length (take n xs)
+least-length xs n m e = omega (arith, length-take n xs)
 
--- the bytes that fill the tail have room in it
-pub part-fits : (xs : List ℕ) (l n k : ℕ) → marked l k ≡ false → n ≡ min (length xs) (4 - k) → k + length (take n xs) ≤ 4
-part-fits xs l n k f e = omega (arith, length-take n xs, tail-bound l k f)
+least-fits : (l k n : ℕ) → k ≤ 4 → n ≡ min l (4 - k) → k + n ≤ 4
+least-fits l k n p e = omega arith
+
+module _ (xs : List ℕ) (l k : ℕ) (c : Cuts) (e : CutsOf l k (length xs) c) where
+  -- the bytes that fill the tail are as many as the cut says
+  pub first-length : c .first ≡ length (take (c .first) xs)
+  first-length = least-length xs (c .first) (4 - k) (e .fills)
+
+  -- they have room in it
+  pub first-fits : marked l k ≡ false → k + length (take (c .first) xs) ≤ 4
+  first-fits f = rw (← first-length) (least-fits (length xs) k (c .first) (tail-bound l k f) (e .fills))
 
 -- a state with another tail and tail length
 abbrev tailed : State → List ℕ → ℕ → State
@@ -86,44 +95,30 @@ count-feed (y ∷ ys) v l (suc m) k cs w h q e =
     ∙ count-feed ys v (l + 1) m k (hit v w cs y) (moved v w y) h (omega arith) (omega arith)
     ∙ rw z
 
--- a tail of four bytes is its four bytes
-four : (t : List ℕ) → length t ≡ 4 → getD t 0 0 ∷ getD t 1 0 ∷ getD t 2 0 ∷ getD t 3 0 ∷ [] ≡ t
-four [] e = absurd (omega arith)
-four (a ∷ []) e = absurd (omega arith)
-four (a ∷ b ∷ []) e = absurd (omega arith)
-four (a ∷ b ∷ c ∷ []) e = absurd (omega arith)
-four (a ∷ b ∷ c ∷ d ∷ []) e = refl
-four (a ∷ b ∷ c ∷ d ∷ f ∷ t) e = absurd (omega arith)
-
--- the window of a state with the tail t
-abbrev opened : State → List ℕ → Window
-opened s t = record { checksum = s .checksum; b0 = getD t 0 0; b1 = getD t 1 0; b2 = getD t 2 0; b3 = getD t 3 0 }
-
-module _ (s : State) (xs t : List ℕ) (n m : ℕ) (f : marked (s .length) (s .«tail_len») ≡ false)
-    (p : n ≡ min (length xs) (4 - s .«tail_len»)) (q : m ≡ min (length xs - n) (stop - s .length))
-    (e : t ≡ sets (s .tail) (s .«tail_len») (take n xs)) (long : length t ≡ 4) where
-  -- the first n bytes fill the tail
-  first-part : feed (take n xs) s ≡ whole (s .variant) (s .length) (s .«tail_len» + n) (s .counters) (opened s t)
+module _ (s : State) (xs t : List ℕ) (c : Cuts) (f : marked (s .length) (s .«tail_len») ≡ false)
+    (k : CutsOf (s .length) (s .«tail_len») (length xs) c) (e : t ≡ sets (s .tail) (s .«tail_len») (take (c .first) xs))
+    (w : Window) (o : Opened (s .checksum) t w) where
+  -- the first bytes fill the tail
+  first-part : feed (take (c .first) xs) s ≡ whole (s .variant) (s .length) (c .«tail_len») (s .counters) w
   first-part =
-      let k : n ≡ length (take n xs) = part-length xs n (4 - s .«tail_len») p in
-      rw (four t long) (rw (← k, ← e) at (fill-feed (take n xs) s (part-fits xs (s .length) n (s .«tail_len») f p)))
+      let n : length (take (c .first) xs) ≡ c .first = sym (first-length xs (s .length) (s .«tail_len») c k) in
+      rw (o .sum, o .bytes, k .grows)
+      (rw (n, ← e) at (fill-feed (take (c .first) xs) s (first-fits xs (s .length) (s .«tail_len») c k f)))
 
-  -- the next m are counted, and the rest comes past the stop; a tail that is not full has taken all bytes
-  other-parts : (w : Window) → Dec (s .«tail_len» + n < 4)
-      → feed (drop n xs) (whole (s .variant) (s .length) (s .«tail_len» + n) (s .counters) w)
-      ≡ whole (s .variant) (s .length + m) (s .«tail_len» + n) (hits (s .variant) (take m (drop n xs)) w (s .counters))
-      (moves (s .variant) (take m (drop n xs)) w)
+  -- the next are counted, and the rest comes past the stop; a tail that is not full has taken all bytes
+  other-parts : Dec (c .«tail_len» < 4) → (ys : List ℕ) → ys ≡ take (c .last - c .first) (drop (c .first) xs)
+      → feed (drop (c .first) xs) (whole (s .variant) (s .length) (c .«tail_len») (s .counters) w)
+      ≡ whole (s .variant) (c .length) (c .«tail_len») (hits (s .variant) ys w (s .counters)) (moves (s .variant) ys w)
   unfolding feed moves hits
-  other-parts w (yes h) =
-      let z : s .length + m ≡ s .length = omega arith in
-      rw (drop-of-length-le xs {i = n} (omega arith), take-nil m, z)
-  other-parts w (no h) =
-      count-feed (drop n xs) (s .variant) (s .length) m (s .«tail_len» + n) (s .counters) w (omega arith)
-      (length-bound (s .length) (s .«tail_len») f) (omega (arith, length-drop n xs))
+  other-parts (yes h) ys p =
+      let z : c .length ≡ s .length = omega (arith, k .fills, k .counts, k .rises, k .grows) in
+      rw (p, drop-of-length-le xs {i = c .first} (omega (arith, k .fills, k .grows)), take-nil (c .last - c .first), z)
+  other-parts (no h) ys p =
+      rw (p, k .rises)
+      (count-feed (drop (c .first) xs) (s .variant) (s .length) (c .last - c .first) (c .«tail_len») (s .counters) w (omega arith)
+      (length-bound (s .length) (s .«tail_len») f) (omega (arith, length-drop (c .first) xs, k .counts)))
 
   -- so the state of the filled tail and the counted bytes is the one that all bytes lead to
-  pub fed-parts : (cs : List ℕ) (w : Window) → Ran (s .variant) (take (n + m - n) (drop n xs)) (s .counters) (opened s t) cs w
-      → whole (s .variant) (s .length + m) (s .«tail_len» + n) cs w ≡ feed xs s
-  fed-parts cs w k =
-      let z : n + m - n ≡ m = omega arith in
-      rw (k .window, k .counters, z, cut-at n xs s, first-part) (sym (other-parts (opened s t) (decLt _ _)))
+  pub fed-parts : (cs : List ℕ) (w′ : Window) → Ran (s .variant) (take (c .last - c .first) (drop (c .first) xs)) (s .counters) w cs w′
+      → whole (s .variant) (c .length) (c .«tail_len») cs w′ ≡ feed xs s
+  fed-parts cs w′ r = rw (r .window, r .counters, cut-at (c .first) xs s, first-part) (sym (other-parts (decLt _ _) _ refl))

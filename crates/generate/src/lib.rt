@@ -18,7 +18,7 @@ ghost use Rattle.pearson.specs.Table.{table};
 ghost use Rattle.pearson.specs.Mapping.{bucket, lasts};
 ghost use Rattle.generate.specs.Feed.{fresh, bump, feed};
 ghost use Rattle.generate.specs.Answer.{marked, made, updated, processed, answerOf};
-ghost use Rattle.generate.specs.Window.{hit, Ran};
+ghost use Rattle.generate.specs.Window.{hit, Ran, Opened, CutsOf};
 
 // The counters stand first: the order of the fields decides how fast a copy is read.
 pub struct State {
@@ -51,6 +51,14 @@ struct Window {
     pub b1: u8,
     pub b2: u8,
     pub b3: u8,
+}
+
+// The bytes before `first` fill the tail, those from there to `last` are counted, and the rest comes past the stop.
+struct Cuts {
+    pub first: usize,
+    pub last: usize,
+    pub length: u32,
+    pub tail_len: u32,
 }
 
 // The number of bytes before a byte that is counted.
@@ -178,41 +186,64 @@ fn least(a: usize, b: usize) -> usize
     if a < b { a } else { b }
 }
 
-// The state after the bytes: some fill the tail, some are counted, and the rest comes past the stop.
-fn fed(s: State, bytes: &[u8]) -> State
-    requires { ⌜ marked (s .length) (s .«tail_len») ≡ false ⌝ }
-    ensures { λ r. ⌜ r ≡ feed (now (bytes .entry)) s ⌝ }
+// Where an update's bytes are cut, and the length field and the tail length after them.
+fn cuts_of(length: u32, tail_len: u32, n: usize) -> Cuts
+    requires { ⌜ marked length «tail_len» ≡ false ⌝ }
+    ensures { λ r. ⌜ CutsOf length «tail_len» n r ⌝ }
 {
-    let short = (TAIL_SIZE - s.tail_len) as usize;
-    let room = (MAX_LEN - s.length) as usize;
-    let n = least(bytes.len(), short);
-    let m = least(bytes.len() - n, room);
-    let end = n + m;
-    let old = s.tail;
-    let tail = fill(old, s.tail_len, &bytes[..n]);
+    let short = (TAIL_SIZE - tail_len) as usize;
+    let room = (MAX_LEN - length) as usize;
+    let filling = least(n, short);
+    let counted = least(n - filling, room);
+    let last = filling + counted;
+    let more = length + counted as u32;
+    let longer = tail_len + filling as u32;
+    Cuts {
+        first: filling,
+        last: last,
+        length: more,
+        tail_len: longer,
+    }
+}
+
+// The window of a checksum and a tail.
+fn opened(checksum: u8, tail: [u8; 4]) -> Window
+    ensures { λ r. ⌜ Opened checksum tail r ⌝ }
+{
     let b0 = tail[0];
     let b1 = tail[1];
     let b2 = tail[2];
     let b3 = tail[3];
-    let first = Window {
-        checksum: s.checksum,
+    Window {
+        checksum: checksum,
         b0: b0,
         b1: b1,
         b2: b2,
         b3: b3,
-    };
+    }
+}
+
+// The state after the bytes: the first of them fill the tail, the next are counted, and the rest comes past the stop.
+fn fed(s: State, bytes: &[u8]) -> State
+    requires { ⌜ marked (s .length) (s .«tail_len») ≡ false ⌝ }
+    ensures { λ r. ⌜ r ≡ feed (now (bytes .entry)) s ⌝ }
+{
+    let cuts = cuts_of(s.length, s.tail_len, bytes.len());
+    let first = cuts.first;
+    let last = cuts.last;
+    let old = s.tail;
+    let filled = fill(old, s.tail_len, &bytes[..first]);
+    let before = opened(s.checksum, filled);
     let mut counters = s.counters;
-    let w = count_all(&mut counters, s.variant, first, &bytes[n..end]);
-    let length = s.length + m as u32;
-    let tail_len = s.tail_len + n as u32;
-    let new = [w.b0, w.b1, w.b2, w.b3];
+    let after = count_all(&mut counters, s.variant, before, &bytes[first..last]);
+    let tail = [after.b0, after.b1, after.b2, after.b3];
     State {
         counters: counters,
         variant: s.variant,
-        length: length,
-        checksum: w.checksum,
-        tail: new,
-        tail_len: tail_len,
+        length: cuts.length,
+        checksum: after.checksum,
+        tail: tail,
+        tail_len: cuts.tail_len,
     }
 }
 

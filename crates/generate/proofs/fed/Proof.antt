@@ -1,53 +1,21 @@
 -- `generate::fed` meets its contract: the three parts of the bytes lead where all of them lead.
 -- Assumes nothing.
-use mathlib.Core.Path.{_≡_}
-use lib.ListN.{length}
-use Rattle.generate.proofs.Parts.{tail-bound, length-bound, part-length, part-fits, fed-parts}
+use Rattle.generate.proofs.Parts.{first-length, first-fits, fed-parts}
 use borrow.Author.Needs.{needs}
 use Rattle.generate.proofs.fed.Statement.{statement}
 use Rattle.generate.proofs.fed.Tie as tie
 
-sub-short : tie.Need-sub-short
-sub-short c = search tail-bound
-
-cast-short : tie.Need-cast-short
-cast-short c = search needs
-
-sub-room : tie.Need-sub-room
-sub-room c = search length-bound
-
-cast-room : tie.Need-cast-room
-cast-room c = search needs
-
-least-requires : tie.Need-least-requires
-least-requires c κs = search needs
-
-sub-least : tie.Need-sub-least
-sub-least c = search needs
-
-least-requires-2 : tie.Need-least-requires-2
-least-requires-2 c κs = search needs
-
-add-end : tie.Need-add-end
-add-end c = search needs
+cuts-of-requires : tie.Need-cuts-of-requires
+cuts-of-requires c κs = search needs
 
 slice-aggregate-fill : tie.Need-slice-aggregate-fill
-slice-aggregate-fill c = part-length _ _ _ (c .before .before .before .least .ensures)
+slice-aggregate-fill c = search first-length
 
 fill-requires : tie.Need-fill-requires
-fill-requires c κs = search part-fits
+fill-requires c κs = search first-fits
 
-array-read-b0 : tie.Need-array-read-b0
-array-read-b0 c = search needs
-
-array-read-b1 : tie.Need-array-read-b1
-array-read-b1 c = search needs
-
-array-read-b2 : tie.Need-array-read-b2
-array-read-b2 c = search needs
-
-array-read-b3 : tie.Need-array-read-b3
-array-read-b3 c = search needs
+opened-requires : tie.Need-opened-requires
+opened-requires c κs = search needs
 
 sub-count-all : tie.Need-sub-count-all
 sub-count-all c = search needs
@@ -61,58 +29,19 @@ part-count-all-end c = search needs
 count-all-requires : tie.Need-count-all-requires
 count-all-requires c κs = search needs
 
-cast-length : tie.Need-cast-length
-cast-length c = search needs
-
-add-length : tie.Need-add-length
-add-length c = search needs
-
-cast-tail-len : tie.Need-cast-tail-len
-cast-tail-len c = search needs
-
-add-tail-len : tie.Need-add-tail-len
-add-tail-len c = search needs
-
 returns : tie.Need-returns
-returns c =
-    let all = c .before .before in
-    let filled = all .before .before .before .before in
-    let two = filled .before .before .before in
-    let one = two .before in
-    let start = one .before .before .before .before in
-    let long : length (filled .fill .result) ≡ 4 = search (needs, filled .fill .ok) in
-    fed-parts _ _ _ _ _
-    (start .pre)
-    (one .least .ensures)
-    (two .least2 .ensures)
-    (filled .fill .ensures)
-    long _ _
-    (all .count-all .ensures)
+returns c = search fed-parts
 
 pub fed-spec : {M : Type 1} → statement M
 fed-spec =
     tie.close
     (tie.spec
-    sub-short
-    cast-short
-    sub-room
-    cast-room
-    least-requires
-    sub-least
-    least-requires-2
-    add-end
+    cuts-of-requires
     slice-aggregate-fill
     fill-requires
-    array-read-b0
-    array-read-b1
-    array-read-b2
-    array-read-b3
+    opened-requires
     sub-count-all
     part-count-all-start
     part-count-all-end
     count-all-requires
-    cast-length
-    add-length
-    cast-tail-len
-    add-tail-len
     returns)
