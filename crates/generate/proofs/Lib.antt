@@ -5,4 +5,6 @@ pub mod Counters
 pub mod Reached
 pub mod Chunks
 mod Loops
+mod Places
+mod Turns
 mod Parts

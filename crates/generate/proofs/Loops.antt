@@ -14,7 +14,7 @@ use Rattle.generate.specs.Feed.{bump, checked, counted}
 use Rattle.generate.specs.Window.{moved, moves, hit, hits, Ran}
 
 -- what is left after i bytes: the byte at i, and what is left after one more
-next : (xs : List ℕ) (i : ℕ) → i < length xs → drop i xs ≡ getD xs i 0 ∷ drop (i + 1) xs
+pub next : (xs : List ℕ) (i : ℕ) → i < length xs → drop i xs ≡ getD xs i 0 ∷ drop (i + 1) xs
 next xs i h = rw (add-one i) (drop-cons xs i 0 h)
 
 -- a tail t of n bytes has become u by i of the bytes xs

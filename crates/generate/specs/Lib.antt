@@ -2,3 +2,4 @@ pub mod Feed
 pub mod Answer
 pub mod Chunks
 pub mod Window
+pub mod Places

@@ -11,7 +11,7 @@
 ghost use mathlib.Core.Path.{_≡_};
 ghost use mathlib.Core.Bool.{false};
 ghost use mathlib.Core.List.{_∷_, []};
-ghost use Prim.Native.Nat.{_+_, _≤_, min};
+ghost use Prim.Native.Nat.{_+_, _%_, _≤_, min};
 ghost use lib.ListN.{length};
 ghost use lib.Seq.{sets};
 ghost use Rattle.pearson.specs.Table.{table};
@@ -19,6 +19,7 @@ ghost use Rattle.pearson.specs.Mapping.{bucket, lasts};
 ghost use Rattle.generate.specs.Feed.{fresh, bump, feed};
 ghost use Rattle.generate.specs.Answer.{marked, made, updated, processed, answerOf};
 ghost use Rattle.generate.specs.Window.{hit, Ran, Opened, CutsOf};
+ghost use Rattle.generate.specs.Places.{bumpBy, spread, Small, Lent, Marked, Scanned};
 
 // The counters stand first: the order of the fields decides how fast a copy is read.
 pub struct State {
@@ -66,6 +67,9 @@ const TAIL_SIZE: u32 = 4;
 
 // Where the length field stops: 2^32, less the four bytes of the tail.
 const MAX_LEN: u32 = 4_294_967_292;
+
+// Below so many bytes the plain loop is the faster one.
+const FEW: usize = 112;
 
 // One more at a counter, which rolls over.
 fn increment(counters: &mut [u32; 256], at: u8)
@@ -154,13 +158,185 @@ fn run(
     next
 }
 
-// The counters and the window after later bytes, with the variant's tables.
+// One more at the place of the last table that a state and two bytes lead to.
+fn mark(t: &[u8; 256], places: &mut [u32; 256], variant: u32, state: u8, c: u8, d: u8)
+    requires table { ⌜ now t ≡ table ⌝ }
+    requires wide { ⌜ length (now places) ≡ 256 ⌝ }
+    ensures { λ _. ⌜ Marked variant (now (places .entry)) state c d (now (places .exit)) ⌝ }
+{
+    increment(places, pearson::update(t, state, c) ^ d);
+}
+
+// One later byte: the checksum, the six places, and the window moves on.
+fn turn(
+    p: &[u64; 256],
+    t: &[u8; 256],
+    l: &[u8; 256],
+    places: &mut [u32; 256],
+    variant: u32,
+    w: Window,
+    b4: u8,
+) -> Window
+    requires lent { ⌜ Lent variant (now p) (now t) (now l) ⌝ }
+    requires wide { ⌜ length (now places) ≡ 256 ⌝ }
+    ensures { λ r. ⌜ Scanned variant (b4 ∷ []) (now (places .entry)) w (now (places .exit)) r ⌝ }
+{
+    let s = pearson::first_steps(p, b4);
+    mark(t, places, variant, (s / 256 % 256) as u8, w.b3, w.b2);
+    mark(t, places, variant, (s / 65_536 % 256) as u8, w.b3, w.b1);
+    mark(t, places, variant, (s / 16_777_216 % 256) as u8, w.b2, w.b1);
+    mark(
+        t,
+        places,
+        variant,
+        (s / 4_294_967_296 % 256) as u8,
+        w.b2,
+        w.b0,
+    );
+    mark(
+        t,
+        places,
+        variant,
+        (s / 1_099_511_627_776 % 256) as u8,
+        w.b3,
+        w.b0,
+    );
+    mark(
+        t,
+        places,
+        variant,
+        (s / 281_474_976_710_656 % 256) as u8,
+        w.b1,
+        w.b0,
+    );
+    let state = pearson::update(t, (s % 256) as u8, w.b3);
+    let checksum = pearson::last(l, variant, state, w.checksum);
+    Window {
+        checksum: checksum,
+        b0: w.b1,
+        b1: w.b2,
+        b2: w.b3,
+        b3: b4,
+    }
+}
+
+// Four later bytes.
+fn turn_four(
+    p: &[u64; 256],
+    t: &[u8; 256],
+    l: &[u8; 256],
+    places: &mut [u32; 256],
+    variant: u32,
+    w: Window,
+    b4: u8,
+    b5: u8,
+    b6: u8,
+    b7: u8,
+) -> Window
+    requires lent { ⌜ Lent variant (now p) (now t) (now l) ⌝ }
+    requires wide { ⌜ length (now places) ≡ 256 ⌝ }
+    ensures { λ r. ⌜ Scanned variant (b4 ∷ b5 ∷ b6 ∷ b7 ∷ []) (now (places .entry)) w (now (places .exit)) r ⌝ }
+{
+    let w1 = turn(p, t, l, places, variant, w, b4);
+    let w2 = turn(p, t, l, places, variant, w1, b5);
+    let w3 = turn(p, t, l, places, variant, w2, b6);
+    turn(p, t, l, places, variant, w3, b7)
+}
+
+// The fast loop over later bytes, four a turn: the window's moves vanish.
+fn scan(
+    p: &[u64; 256],
+    t: &[u8; 256],
+    l: &[u8; 256],
+    places: &mut [u32; 256],
+    variant: u32,
+    w: Window,
+    bytes: &[u8],
+) -> Window
+    requires lent { ⌜ Lent variant (now p) (now t) (now l) ⌝ }
+    requires wide { ⌜ length (now places) ≡ 256 ⌝ }
+    requires fours { ⌜ length (now bytes) % 4 ≡ 0 ⌝ }
+    ensures { λ r. ⌜ Scanned variant (now (bytes .entry)) (now (places .entry)) w (now (places .exit)) r ⌝ }
+{
+    let mut next = w;
+    let mut i = 0;
+    while i < bytes.len() {
+        next = turn_four(
+            p,
+            t,
+            l,
+            places,
+            variant,
+            next,
+            bytes[i],
+            bytes[i + 1],
+            bytes[i + 2],
+            bytes[i + 3],
+        );
+        i += 4;
+    }
+    next
+}
+
+// Some more at a counter, which rolls over.
+fn increment_by(counters: &mut [u32; 256], at: u8, k: u32)
+    ensures { λ _. ⌜ now (counters .exit) ≡ bumpBy (now (counters .entry)) at k ⌝ }
+{
+    let i = at as usize;
+    let old = counters[i];
+    counters[i] = std::num::wrapping_add_u32(old, k);
+}
+
+// The last lookup of all places at once: each place's number more at the counter that the last table names there.
+fn spread_out(l: &[u8; 256], places: &[u32; 256], counters: &mut [u32; 256])
+    requires last { ⌜ length (now l) ≡ 256 ⌝ }
+    requires wide { ⌜ length (now places) ≡ 256 ⌝ }
+    ensures { λ _. ⌜ now (counters .exit) ≡ spread (now (counters .entry)) (now (places .entry)) (now (l .entry)) ⌝ }
+{
+    let mut z = 0;
+    while z < 256 {
+        increment_by(counters, l[z], places[z]);
+        z += 1;
+    }
+}
+
+// The counters and the window after later bytes: the fast loop, and the plain one for the last three at most.
+fn leap(
+    p: &[u64; 256],
+    t: &[u8; 256],
+    l: &[u8; 256],
+    counters: &mut [u32; 256],
+    variant: u32,
+    w: Window,
+    bytes: &[u8],
+) -> Window
+    requires lent { ⌜ Lent variant (now p) (now t) (now l) ⌝ }
+    requires small { ⌜ Small (now counters) ⌝ }
+    ensures { λ r. ⌜ Ran variant (now (bytes .entry)) (now (counters .entry)) w (now (counters .exit)) r ⌝ }
+{
+    let m = bytes.len() / 4 * 4;
+    let mut places = [0u32; 256];
+    let next = scan(p, t, l, &mut places, variant, w, &bytes[..m]);
+    spread_out(l, &places, counters);
+    run(t, l, counters, variant, next, &bytes[m..])
+}
+
+// The counters and the window after later bytes, with the variant's tables. Outside the short variant the last table is T itself.
 fn count_all(counters: &mut [u32; 256], variant: u32, w: Window, bytes: &[u8]) -> Window
+    requires { ⌜ Small (now counters) ⌝ }
     ensures { λ r. ⌜ Ran variant (now (bytes .entry)) (now (counters .entry)) w (now (counters .exit)) r ⌝ }
 {
     let t = pearson::subst_table();
-    let l = pearson::last_table(variant);
-    run(&t, &l, counters, variant, w, bytes)
+    if bytes.len() < FEW {
+        let plain = pearson::last_table(variant);
+        return run(&t, &plain, counters, variant, w, bytes);
+    }
+    let p = pearson::step_table();
+    if variant == params::SHORT {
+        let short = pearson::last_table(variant);
+        return leap(&p, &t, &short, counters, variant, w, bytes);
+    }
+    leap(&p, &t, &t, counters, variant, w, bytes)
 }
 
 // A tail of n bytes with some more behind them.

@@ -6,10 +6,12 @@
 // which is counted and never used, for the rest. It does so by a table of its own for the last byte, so that all variants run
 // alike.
 //
-// A loop lends both tables to `b_mapping`. `mapping` is for a caller that only wants a value.
+// A loop lends both tables to `b_mapping`. `mapping` is for a caller that only wants a value. A loop over many bytes lends a third
+// table too: after a salt and a byte there are seven states, and they stand packed in one number for each byte.
 ghost use mathlib.Core.Path.{_≡_};
 ghost use Rattle.pearson.specs.Table.{table};
 ghost use Rattle.pearson.specs.Mapping.{after, own, bucket, lasts, mapped};
+ghost use Rattle.pearson.specs.Steps.{packed, steps};
 
 mod tables;
 
@@ -85,4 +87,20 @@ pub fn mapping(variant: u32, b0: u8, b1: u8, b2: u8, b3: u8) -> Mapped
         number: params::DONE,
         value: value,
     }
+}
+
+// The packed first steps of all bytes, to be lent.
+pub fn step_table() -> [u64; 256]
+    ensures { λ r. ⌜ r ≡ steps ⌝ }
+{
+    tables::STEP_TABLE
+}
+
+// The packed first steps of a byte.
+pub fn first_steps(p: &[u64; 256], value: u8) -> u64
+    requires { ⌜ now p ≡ steps ⌝ }
+    ensures { λ r. ⌜ r ≡ packed value ⌝ }
+{
+    let i = value as usize;
+    p[i]
 }

@@ -48,7 +48,7 @@ pub const SECTIONS: [Section; 11] = [
     },
     Section {
         name: "pieces",
-        about: "every length to 260 in every piece to 261, and longer inputs in odd pieces",
+        about: "every length to 260 cut into every piece, and longer inputs in odd pieces",
         jobs: pieces::cut_jobs,
         run: pieces::cut,
     },

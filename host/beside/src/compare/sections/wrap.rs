@@ -6,35 +6,59 @@ use beside::oracle::Fed;
 use beside::random::Random;
 use saltcurtain::{Variant, raw};
 
-/// A cycle of five bytes at which more than half of the short variant's counters rise once in each turn, so that they all grow by
-/// a fifth of the length.
-fn fast_cycle(random: &mut Random) -> [u8; 5] {
+/// Bytes of a whole turn of a cycle.
+const CYCLE: usize = 5;
+
+/// How often a cycle turns, and whether its third quartile is a little above its second.
+const TURNS: [(usize, bool); 4] = [
+    // 100 q is past 2^32.
+    (51_234_567, false),
+    (42_949_673, false),
+    // It is below 2^32, and the quotient, a little below 100, is rounded up to 100.
+    (42_949_672, true),
+    (30_000_000, true),
+];
+
+/// So many turns of a cycle and some bytes more.
+fn length(turns: usize, more: usize) -> usize {
+    4 + turns * CYCLE + more
+}
+
+/// A cycle, and how many bytes stand past its last turn, which raise some counters once more.
+///
+/// It is chosen by its second ratio in whole numbers after 10 and after 20 turns. Each counter is then a small multiple of the turns, or
+/// a little more. The ratios are 0 where the second quartile is, and such a cycle shows nothing. They are A and F where the
+/// quotients are those of 10 and 11 and of 20 and 21.
+fn some_cycle(random: &mut Random, apart: bool) -> ([u8; CYCLE], usize) {
     loop {
-        let cycle = [0; 5].map(|_: u8| random.next() as u8);
-        let input: Vec<u8> = cycle.iter().copied().cycle().take(404).collect();
-        let fed = Fed::with(Variant::Short, 0, &input);
-        // The counters are small multiples of each other here, so the second ratio is 0 only where the second quartile is.
-        if fed.answer(2).is_ok_and(|text| &text[7..8] != "0") {
-            return cycle;
+        let cycle = [0; CYCLE].map(|_: u8| random.next() as u8);
+        let more = random.below(CYCLE);
+        let ratio = |turns: usize| {
+            let input: Vec<u8> = cycle.iter().copied().cycle().take(length(turns, more)).collect();
+            let text = Fed::with(Variant::Short, 0, &input).answer(2).ok()?;
+            text.chars().nth(7)
+        };
+        let fits = match (ratio(10), ratio(20)) {
+            (Some(ten), Some(twenty)) if apart => (ten, twenty) == ('A', 'F'),
+            (_, twenty) => !apart && twenty.is_some_and(|twenty| twenty != '0'),
+        };
+        if fits {
+            return (cycle, more);
         }
     }
 }
 
-/// Turns of the cycle: to both sides of the place where 100 q passes 2^32, and where floating and whole-number ratios part.
-const TURNS: [usize; 4] = [42_949_673, 42_949_672, 30_000_000, 41_234_567];
-
 /// Few: each takes some seconds.
 pub fn jobs(scale: u64) -> u64 {
-    if scale > 1 { TURNS.len() as u64 * scale.min(8) } else { 3 }
+    TURNS.len() as u64 * scale.min(8)
 }
 
 /// One input at both ratio paths.
 pub fn run(job: u64, random: &mut Random, tally: &mut Tally) {
-    let cycle = fast_cycle(random);
-    let turns = TURNS[(job % TURNS.len() as u64) as usize];
-    // The bytes past the last whole turn raise some counters by one more.
-    let length = 4 + turns * 5 + random.pick(&[0, 1, 2, 3]);
-    let pattern: Vec<u8> = cycle.into_iter().cycle().take(5 * PAGE * 64).collect();
+    let (turns, apart) = TURNS[(job % TURNS.len() as u64) as usize];
+    let (cycle, more) = some_cycle(random, apart);
+    let length = length(turns, more);
+    let pattern: Vec<u8> = cycle.into_iter().cycle().take(CYCLE * PAGE * 64).collect();
     let mapped = Mapped::new(&pattern, length).expect("the pattern is mapped");
     let bytes = &mapped.bytes()[..length];
 
