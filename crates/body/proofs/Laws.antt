@@ -1,8 +1,8 @@
 -- The code of a counter by the tests that lead to it, and the body's list while it is filled from its last used byte to its first.
 -- Assumes nothing.
 use mathlib.Core.Path.{_≡_, refl, _∙_, ap}
-use mathlib.Core.List.{List, [], _∷_, _++_}
-use Prim.Native.Nat.{ℕ, zero, suc, _+_, _-_, _*_, _/_, _≤_, _<_, min}
+use mathlib.Core.List.{List, _∷_, _++_}
+use Prim.Native.Nat.{ℕ, zero, suc, _+_, _-_, _*_, _≤_, _<_}
 use native.Mathlib.Numerals.{add-one}
 use native.Mathlib.Omega.{arith}
 use borrow.Author.Tests.{lt-ltb, le-ltb}
@@ -57,7 +57,8 @@ filled-none cuts used m e =
     }
 
 -- a turn stores the byte for the next place in front of them
-pub filled-more : (cuts : Quartiles) (used : List ℕ) (m i b : ℕ) (body : List ℕ) → Filled cuts used m i body → i < m → b ≡ byteOf cuts used i → Filled cuts used m (i + 1) (set body (m - 1 - i) b)
+pub filled-more : (cuts : Quartiles) (used : List ℕ) (m i b : ℕ) (body : List ℕ) → Filled cuts used m i body → i < m
+    → b ≡ byteOf cuts used i → Filled cuts used m (i + 1) (set body (m - 1 - i) b)
 filled-more cuts used m i b body f h r =
     let p = m - 1 - i in
     let rest : List ℕ = bytesDown cuts used i ++ replicate (64 - m) 0 in
@@ -66,7 +67,9 @@ filled-more cuts used m i b body f h r =
     record {
       count = f .count;
       within = omega arith;
-      holds = rw (r, f .holds, now, zeros-last, next, add-one i) (set-at (replicate p 0) 0 rest (byteOf cuts used i) p (length-replicate p 0));
+      holds =
+          rw (r, f .holds, now, zeros-last, next, add-one i)
+          (set-at (replicate p 0) 0 rest (byteOf cuts used i) p (length-replicate p 0));
     }
 
 -- at the end it is the body

@@ -1,2 +1,3 @@
 pub mod Laws
+pub mod Padded
 pub mod Shape

@@ -2,16 +2,15 @@
 -- Assumes nothing.
 use mathlib.Core.Path.{_≡_, refl, _∙_, ap, subst}
 use mathlib.Core.Bool.{Bool, true, false, cond}
-use mathlib.Core.List.{List, [], _∷_, _++_}
-use Prim.Native.Nat.{ℕ, zero, suc, _+_, _-_, _*_, _/_, _≤_, _<_, min}
+use mathlib.Core.List.{List}
+use Prim.Native.Nat.{ℕ, zero, suc, _+_, _-_, _*_, _≤_, _<_}
 use native.Mathlib.Nat.{zero-add, suc-add}
 use native.Mathlib.Omega.{arith}
 use lib.Dec.{ltb}
-use borrow.Author.Tests.{ltb-true, ltb-false}
 use lib.ListN.{length, getD, replicate, length-append, length-replicate, List·getD-append}
-use lib.Seq.{getD-append-add}
 use Rattle.quartile.specs.declared.Quartiles.{Quartiles}
 use Rattle.body.specs.Body.{codeOf, byteOf, bytesDown, bytesOf, bodyOf}
+use Rattle.body.proofs.Padded.{padded-small, padded-rest}
 
 -- a code is two bits
 pub code-most : (cuts : Quartiles) (counter : ℕ) → codeOf cuts counter ≤ 3
@@ -51,12 +50,6 @@ down-at : (cuts : Quartiles) (used : List ℕ) (k i : ℕ) → getD (bytesDown c
 down-at cuts used zero i = rw zero-add
 down-at cuts used (suc k) i = rw suc-add (down-at cuts used k i)
 
--- every entry of a row of zeros, and of what follows it, is 0
-zeros-at : (n k : ℕ) → getD {A = ℕ} (replicate n 0) k 0 ≡ 0
-zeros-at zero k = refl
-zeros-at (suc n) zero = refl
-zeros-at (suc n) (suc k) = zeros-at n k
-
 module _ (cuts : Quartiles) (used : List ℕ) where
   -- a body is 64 bytes long
   pub length-body : length (bodyOf cuts used) ≡ 64
@@ -81,22 +74,11 @@ module _ (cuts : Quartiles) (used : List ℕ) where
   unfolding bodyOf
   body-rest i h =
       let m = bytesOf (length used) in
-      let n = length-down cuts used m in
-      let e : i ≡ length (bytesDown cuts used m) + (i - m) = omega arith in
-      ap (λ (k : ℕ). getD (bodyOf cuts used) k 0) e
-      ∙ getD-append-add (bytesDown cuts used m) (replicate (64 - m) 0) (i - m) 0
-      ∙ zeros-at (64 - m) (i - m)
+      padded-rest (bytesDown cuts used m) (64 - m) i (omega (arith, length-down cuts used m))
 
   -- each entry is a byte
   pub body-small : (i : ℕ) → getD (bodyOf cuts used) i 0 < 256
   unfolding bodyOf
-  body-small i = go (ltb i (bytesOf (length used))) refl
-    where
-      go : (b : Bool) → ltb i (bytesOf (length used)) ≡ b → getD (bodyOf cuts used) i 0 < 256
-      go true e =
-          let m = bytesOf (length used) in
-          let l = ltb-true i m e in
-          let n = length-down cuts used m in
-          let f : i < length (bytesDown cuts used m) = omega arith in
-          omega (arith, List·getD-append (bytesDown cuts used m) (replicate (64 - m) 0) 0 i f, down-small cuts used m i)
-      go false e = omega (arith, body-rest i (ltb-false i (bytesOf (length used)) e))
+  body-small =
+      let m = bytesOf (length used) in
+      padded-small (bytesDown cuts used m) (64 - m) (down-small cuts used m)

@@ -10,6 +10,7 @@ ghost use mathlib.Core.Path.{_≡_};
 ghost use Prim.Native.Nat.{_+_, _*_, _≤_};
 ghost use lib.ListN.{length};
 ghost use Rattle.body.specs.Body.{codeOf, byteOf, bytesOf, bodyOf};
+
 use quartile::Quartiles;
 
 // The code of a counter.
@@ -40,8 +41,8 @@ fn byte_of(cuts: Quartiles, used: &[u32], i: usize) -> u8
     a + 4 * b + 16 * c + 64 * d
 }
 
-// The number of bytes that so many counters fill, at most 64.
-fn bytes_of(counters: usize) -> usize
+// The number of bytes that so many counters fill, at most 64. A variant is its number of counters, so these are its used bytes.
+pub fn bytes_of(counters: usize) -> usize
     ensures { λ r. ⌜ r ≡ bytesOf counters ⌝ }
 {
     if 256 <= counters {

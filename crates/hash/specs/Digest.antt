@@ -1,25 +1,22 @@
 -- The digest record, and when two are the same (document 01, Text).
 -- Assumes nothing.
-use mathlib.Core.Bool.{Bool, true, false, cond, not, _&&_, _||_}
+use mathlib.Core.Bool.{Bool, true, false, cond, not, _&&_}
 use mathlib.Core.List.{List}
 use mathlib.Core.Path.{_≡_}
-use Prim.Native.Nat.{ℕ, zero, suc, _/_, _≤_, _<_}
+use Prim.Native.Nat.{ℕ, zero, suc, _≤_, _<_}
 use lib.Dec.{eqb}
 use lib.ListN.{length, getD, replicate}
 use Rattle.params.specs.Variants.{known}
 use Rattle.params.specs.Answers.{done, unknownVariant}
+use Rattle.body.specs.Body.{bytesOf}
 use Rattle.hash.specs.declared.Digest.{Digest}
 use Rattle.hash.specs.declared.SameAnswer.{SameAnswer}
-
--- the number of body bytes that a variant uses: 12, 32 or 64
-abbrev pub usedBytes : ℕ → ℕ
-usedBytes v = v / 4
 
 -- the record beside a refusal
 abbrev pub zeroDigest : Digest
 zeroDigest = record { body = replicate 64 0; variant = 0; checksum = 0; «length_code» = 0; ratios = 0 }
 
--- a record that the port makes: a known variant, bytes, and 0 in each body byte after the used ones
+-- a record that the port makes: a known variant, bytes, and 0 in each body byte after the 12, 32 or 64 that the variant uses
 pub record Made (d : Digest) : Type 0 where
   pub variant : known (d .variant) ≡ true
   pub checksum : d .checksum < 256
@@ -27,7 +24,7 @@ pub record Made (d : Digest) : Type 0 where
   pub ratios : d .ratios < 256
   pub long : length (d .body) ≡ 64
   pub bytes : (i : ℕ) → getD (d .body) i 0 < 256
-  pub rest : (i : ℕ) → usedBytes (d .variant) ≤ i → getD (d .body) i 0 ≡ 0
+  pub rest : (i : ℕ) → bytesOf (d .variant) ≤ i → getD (d .body) i 0 ≡ 0
 
 -- the first n entries of two lists are equal
 abbrev pub firstEqual : ℕ → List ℕ → List ℕ → Bool
@@ -41,10 +38,10 @@ sameFields a b =
     && eqb (a .checksum) (b .checksum)
     && eqb (a .«length_code») (b .«length_code»)
     && eqb (a .ratios) (b .ratios)
-    && firstEqual (usedBytes (a .variant)) (a .body) (b .body)
+    && firstEqual (bytesOf (a .variant)) (a .body) (b .body)
 
 -- the answer: 6 where one of the two is of no known variant
 unfoldable pub sameOf : Digest → Digest → SameAnswer
 sameOf a b =
-    cond (not (known (a .variant)) || not (known (b .variant))) (record { number = unknownVariant; same = false })
+    cond (not (known (a .variant) && known (b .variant))) (record { number = unknownVariant; same = false })
     (record { number = done; same = sameFields a b })

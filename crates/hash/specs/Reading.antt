@@ -1,6 +1,6 @@
 -- Reading a text (document 01, Text and Numbers for every answer): exactly the written form, with any bytes.
 -- Assumes nothing.
-use mathlib.Core.Bool.{Bool, true, false, cond, not, _&&_, _||_}
+use mathlib.Core.Bool.{Bool, true, cond, not, _&&_, _||_}
 use mathlib.Core.List.{List, [], _∷_, _++_}
 use Prim.Native.Nat.{ℕ, _+_, _-_, _*_}
 use lib.Dec.{leb, eqb}
@@ -25,19 +25,19 @@ abbrev pub allDigits : List ℕ → Bool
 allDigits [] = true
 allDigits (c ∷ cs) = isDigit c && allDigits cs
 
--- the byte whose low digit stands at a place, and its high digit after it
-abbrev pub lowPair : List ℕ → ℕ → ℕ
-lowPair t at = valueOf (getD t at 0) + 16 * valueOf (getD t (at + 1) 0)
+-- the byte of a low and a high digit
+unfoldable pub byteFrom : ℕ → ℕ → ℕ
+byteFrom low high = valueOf low + 16 * valueOf high
 
--- the byte whose high digit stands at a place, and its low digit after it
-abbrev pub highPair : List ℕ → ℕ → ℕ
-highPair t at = 16 * valueOf (getD t at 0) + valueOf (getD t (at + 1) 0)
+-- the byte whose low digit stands at one place, and its high digit at another
+abbrev pub byteAt : List ℕ → ℕ → ℕ → ℕ
+byteAt t low high = byteFrom (getD t low 0) (getD t high 0)
 
 -- the bytes of digits two by two, the high one of each two first
 abbrev pub bytesFrom : List ℕ → List ℕ
 bytesFrom [] = []
 bytesFrom (h ∷ []) = []
-bytesFrom (h ∷ l ∷ cs) = (16 * valueOf h + valueOf l) ∷ bytesFrom cs
+bytesFrom (h ∷ l ∷ cs) = byteFrom l h ∷ bytesFrom cs
 
 -- the body: the bytes from place 6 on, and 0 up to 64
 unfoldable pub bodyFrom : List ℕ → List ℕ
@@ -49,9 +49,9 @@ digestOf v t =
     record {
       body = bodyFrom t;
       variant = v;
-      checksum = lowPair t 0;
-      «length_code» = lowPair t 2;
-      ratios = lowPair t 4;
+      checksum = byteAt t 0 1;
+      «length_code» = byteAt t 2 3;
+      ratios = byteAt t 4 5;
     }
 
 -- a refusal carries an all-zero digest

@@ -10,7 +10,7 @@ use Rattle.params.specs.Variants.{known}
 use Rattle.params.specs.Answers.{done, unknownVariant, shortDestination}
 use Rattle.hash.specs.declared.Digest.{Digest}
 use Rattle.hash.specs.declared.SizeAnswer.{SizeAnswer}
-use Rattle.hash.specs.Digest.{usedBytes}
+use Rattle.body.specs.Body.{bytesOf}
 
 -- the character of a digit: 48 to 57 are 0 to 9, and 65 to 70 are A to F
 unfoldable pub digitOf : ℕ → ℕ
@@ -35,11 +35,11 @@ bodyText (b ∷ bs) = highFirst b ++ bodyText bs
 
 -- the text: the head, and then the used bytes of the body
 unfoldable pub textOf : Digest → List ℕ
-textOf d = headText (d .checksum) (d .«length_code») (d .ratios) ++ bodyText (take (usedBytes (d .variant)) (d .body))
+textOf d = headText (d .checksum) (d .«length_code») (d .ratios) ++ bodyText (take (bytesOf (d .variant)) (d .body))
 
 -- the size of a variant's text: 32, 72 or 136
 abbrev pub textSize : ℕ → ℕ
-textSize v = 8 + 2 * usedBytes v
+textSize v = 8 + 2 * bytesOf v
 
 -- what is answered to a question for it
 unfoldable pub sizeOf : ℕ → SizeAnswer

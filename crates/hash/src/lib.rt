@@ -9,15 +9,16 @@
 // The reader takes that form and no other. It tests the size, splits `T1` off, and what is left is one function's work
 // (`read_digits`), in which `is_digit` alone judges a character.
 ghost use mathlib.Core.Path.{_≡_};
-ghost use mathlib.Core.Bool.{true};
+ghost use mathlib.Core.Bool.{true, _&&_};
 ghost use mathlib.Core.List.{_∷_, []};
 ghost use Prim.Native.Nat.{_+_, _*_, _≤_, _<_};
-ghost use lib.ListN.{length, getD, take};
+ghost use lib.ListN.{length, take};
 ghost use lib.Seq.{sets};
 ghost use Rattle.params.specs.Variants.{known};
-ghost use Rattle.hash.specs.Digest.{usedBytes, zeroDigest, firstEqual, sameOf};
-ghost use Rattle.hash.specs.Text.{sizeOf, digitOf, lowFirst, highFirst, headText, bodyText, Written, writeOf};
-ghost use Rattle.hash.specs.Reading.{isDigit, valueOf, allDigits, beginsT1, lowPair, highPair, bodyFrom, refusedRead, digitsOf, readOf};
+ghost use Rattle.hash.specs.Digest.{zeroDigest, firstEqual, sameOf};
+ghost use Rattle.hash.specs.Text.{sizeOf, digitOf, highFirst, headText, bodyText, Written, writeOf};
+ghost use Rattle.hash.specs.Reading.{isDigit, valueOf, allDigits, byteAt, bodyFrom};
+ghost use Rattle.hash.specs.Reading.{refusedRead, digitsOf, beginsT1, readOf};
 
 // The body stands first, so that a copy of it lies on a word's bounds. The ratio of q1 is in the low four bits of `ratios`.
 #[repr(C)]
@@ -60,14 +61,6 @@ pub fn zero_digest() -> Digest
     }
 }
 
-// The bytes of the body that a variant uses.
-fn used_bytes(variant: u32) -> usize
-    requires { ⌜ known variant ≡ true ⌝ }
-    ensures { λ r. ⌜ (r ≡ usedBytes variant) × (r ≤ 64) ⌝ }
-{
-    (variant / 4) as usize
-}
-
 // The size of a variant's text; 6 for another variant.
 pub fn text_size(variant: u32) -> SizeAnswer
     ensures { λ r. ⌜ r ≡ sizeOf variant ⌝ }
@@ -78,7 +71,7 @@ pub fn text_size(variant: u32) -> SizeAnswer
             size: 0,
         };
     }
-    let m = used_bytes(variant);
+    let m = body::bytes_of(variant as usize);
     SizeAnswer {
         number: params::DONE,
         size: 8 + 2 * m,
@@ -99,23 +92,24 @@ fn first_equal(x: &[u8; 64], y: &[u8; 64], m: usize) -> bool
     equal
 }
 
+// Whether two numbers are variants.
+fn both_known(v: u32, w: u32) -> bool
+    ensures { λ r. ⌜ r ≡ (known v && known w) ⌝ }
+{
+    params::is_known(v) & params::is_known(w)
+}
+
 // Whether two digests are of one variant and equal in their used fields; 6 where one is of none.
 pub fn same(a: Digest, b: Digest) -> SameAnswer
     ensures { λ r. ⌜ r ≡ sameOf a b ⌝ }
 {
-    if !params::is_known(a.variant) {
+    if !both_known(a.variant, b.variant) {
         return SameAnswer {
             number: params::UNKNOWN_VARIANT,
             same: false,
         };
     }
-    if !params::is_known(b.variant) {
-        return SameAnswer {
-            number: params::UNKNOWN_VARIANT,
-            same: false,
-        };
-    }
-    let m = used_bytes(a.variant);
+    let m = body::bytes_of(a.variant as usize);
     let bodies = first_equal(&a.body, &b.body, m);
     SameAnswer {
         number: params::DONE,
@@ -135,29 +129,30 @@ fn digit_of(n: u8) -> u8
     if n < 10 { 48 + n } else { 55 + n }
 }
 
-// Stores two characters at a place.
-fn put(destination: &mut [u8], at: usize, a: u8, b: u8)
-    requires { ⌜ at + 2 ≤ length (now destination) ⌝ }
-    ensures { λ _. ⌜ now (destination .exit) ≡ sets (now (destination .entry)) at (a ∷ b ∷ []) ⌝ }
+// Stores two digits at a place.
+fn put(destination: &mut [u8], at: usize, first: u8, second: u8)
+    requires { ⌜ (first < 16) × (second < 16) × (at + 2 ≤ length (now destination)) ⌝ }
+    ensures { λ _. ⌜ now (destination .exit) ≡ sets (now (destination .entry)) at (digitOf first ∷ digitOf second ∷ []) ⌝ }
 {
-    destination[at] = a;
-    destination[at + 1] = b;
-}
-
-// Stores a byte's digits, the low one first.
-fn put_low(destination: &mut [u8], at: usize, b: u8)
-    requires { ⌜ at + 2 ≤ length (now destination) ⌝ }
-    ensures { λ _. ⌜ now (destination .exit) ≡ sets (now (destination .entry)) at (lowFirst b) ⌝ }
-{
-    put(destination, at, digit_of(b % 16), digit_of(b / 16));
+    destination[at] = digit_of(first);
+    destination[at + 1] = digit_of(second);
 }
 
 // Stores a byte's digits, the high one first.
-fn put_high(destination: &mut [u8], at: usize, b: u8)
+fn put_byte(destination: &mut [u8], at: usize, b: u8)
     requires { ⌜ at + 2 ≤ length (now destination) ⌝ }
     ensures { λ _. ⌜ now (destination .exit) ≡ sets (now (destination .entry)) at (highFirst b) ⌝ }
 {
-    put(destination, at, digit_of(b / 16), digit_of(b % 16));
+    put(destination, at, b / 16, b % 16);
+}
+
+// Stores `T1` at the front.
+fn put_t1(destination: &mut [u8])
+    requires { ⌜ 2 ≤ length (now destination) ⌝ }
+    ensures { λ _. ⌜ now (destination .exit) ≡ sets (now (destination .entry)) 0 (84 ∷ 49 ∷ []) ⌝ }
+{
+    destination[0] = 84;
+    destination[1] = 49;
 }
 
 // Stores `T1` and the three fields before the body.
@@ -165,10 +160,10 @@ fn put_head(destination: &mut [u8], checksum: u8, length_code: u8, ratios: u8)
     requires { ⌜ 8 ≤ length (now destination) ⌝ }
     ensures { λ _. ⌜ now (destination .exit) ≡ sets (now (destination .entry)) 0 (headText checksum «length_code» ratios) ⌝ }
 {
-    put(destination, 0, 84, 49);
-    put_low(destination, 2, checksum);
-    put_low(destination, 4, length_code);
-    put_low(destination, 6, ratios);
+    put_t1(destination);
+    put(destination, 2, checksum % 16, checksum / 16);
+    put(destination, 4, length_code % 16, length_code / 16);
+    put(destination, 6, ratios % 16, ratios / 16);
 }
 
 // Stores the digits of the first m bytes of a body, from place 8 on.
@@ -178,7 +173,7 @@ fn put_body(destination: &mut [u8], body: &[u8; 64], m: usize)
 {
     let mut i = 0;
     while i < m {
-        put_high(destination, 8 + 2 * i, body[i]);
+        put_byte(destination, 8 + 2 * i, body[i]);
         i += 1;
     }
 }
@@ -190,7 +185,7 @@ pub fn write_text(digest: Digest, destination: &mut [u8]) -> u32
     if !params::is_known(digest.variant) {
         return params::UNKNOWN_VARIANT;
     }
-    let m = used_bytes(digest.variant);
+    let m = body::bytes_of(digest.variant as usize);
     if destination.len() < 8 + 2 * m {
         return params::SHORT_DESTINATION;
     }
@@ -232,20 +227,12 @@ fn all_digits(t: &[u8]) -> bool
     good
 }
 
-// The byte whose low digit stands at a place, and its high digit after it.
-fn low_pair(t: &[u8], at: usize) -> u8
-    requires { ⌜ (allDigits (now t) ≡ true) × (at + 2 ≤ length (now t)) ⌝ }
-    ensures { λ r. ⌜ r ≡ lowPair (now (t .entry)) at ⌝ }
+// The byte whose low digit stands at one place, and its high digit at another.
+fn byte_at(t: &[u8], low: usize, high: usize) -> u8
+    requires { ⌜ (allDigits (now t) ≡ true) × (low < length (now t)) × (high < length (now t)) ⌝ }
+    ensures { λ r. ⌜ r ≡ byteAt (now (t .entry)) low high ⌝ }
 {
-    value_of(t[at]) + 16 * value_of(t[at + 1])
-}
-
-// The byte whose high digit stands at a place, and its low digit after it.
-fn high_pair(t: &[u8], at: usize) -> u8
-    requires { ⌜ (allDigits (now t) ≡ true) × (at + 2 ≤ length (now t)) ⌝ }
-    ensures { λ r. ⌜ r ≡ highPair (now (t .entry)) at ⌝ }
-{
-    16 * value_of(t[at]) + value_of(t[at + 1])
+    value_of(t[low]) + 16 * value_of(t[high])
 }
 
 // The body: m bytes from place 6 on, and 0 after them.
@@ -256,7 +243,7 @@ fn body_from(t: &[u8], m: usize) -> [u8; 64]
     let mut body = [0u8; 64];
     let mut i = 0;
     while i < m {
-        body[i] = high_pair(t, 6 + 2 * i);
+        body[i] = byte_at(t, 7 + 2 * i, 6 + 2 * i);
         i += 1;
     }
     body
@@ -286,9 +273,9 @@ fn read_digits(variant: u32, m: usize, t: &[u8]) -> ReadAnswer
         digest: Digest {
             body,
             variant,
-            checksum: low_pair(t, 0),
-            length_code: low_pair(t, 2),
-            ratios: low_pair(t, 4),
+            checksum: byte_at(t, 0, 1),
+            length_code: byte_at(t, 2, 3),
+            ratios: byte_at(t, 4, 5),
         },
     }
 }
@@ -308,7 +295,7 @@ pub fn read_text(variant: u32, text: &[u8]) -> ReadAnswer
     if !params::is_known(variant) {
         return refused(params::UNKNOWN_VARIANT);
     }
-    let m = used_bytes(variant);
+    let m = body::bytes_of(variant as usize);
     if text.len() != 8 + 2 * m {
         return refused(params::WRONG_SIZE);
     }

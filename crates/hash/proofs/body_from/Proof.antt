@@ -15,14 +15,20 @@ abbrev μ-loop : tie.MeasureT-loop
 loop-holds : tie.Need-loop-holds Inv-loop μ-loop
 loop-holds c = search bodied-none
 
-mul-high-pair : tie.Need-mul-high-pair Inv-loop μ-loop
-mul-high-pair c = search needs
+mul-byte-at : tie.Need-mul-byte-at Inv-loop μ-loop
+mul-byte-at c = search needs
 
-add-high-pair : tie.Need-add-high-pair Inv-loop μ-loop
-add-high-pair c = search needs
+add-byte-at : tie.Need-add-byte-at Inv-loop μ-loop
+add-byte-at c = search needs
 
-high-pair-requires : tie.Need-high-pair-requires Inv-loop μ-loop
-high-pair-requires c κs = search needs
+mul-byte-at-2 : tie.Need-mul-byte-at-2 Inv-loop μ-loop
+mul-byte-at-2 c = search needs
+
+add-byte-at-2 : tie.Need-add-byte-at-2 Inv-loop μ-loop
+add-byte-at-2 c = search needs
+
+byte-at-requires : tie.Need-byte-at-requires Inv-loop μ-loop
+byte-at-requires c κs = search needs
 
 array-write-body : tie.Need-array-write-body Inv-loop μ-loop
 array-write-body c = search needs
@@ -46,9 +52,11 @@ body-from-spec =
     Inv-loop
     μ-loop
     loop-holds
-    mul-high-pair
-    add-high-pair
-    high-pair-requires
+    mul-byte-at
+    add-byte-at
+    mul-byte-at-2
+    add-byte-at-2
+    byte-at-requires
     array-write-body
     add-i
     loop-less

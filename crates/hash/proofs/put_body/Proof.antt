@@ -15,17 +15,17 @@ abbrev μ-loop : tie.MeasureT-loop
 loop-holds : tie.Need-loop-holds Inv-loop μ-loop
 loop-holds c = search puts-none
 
-mul-put-high : tie.Need-mul-put-high Inv-loop μ-loop
-mul-put-high c = search needs
+mul-put-byte : tie.Need-mul-put-byte Inv-loop μ-loop
+mul-put-byte c = search needs
 
-add-put-high : tie.Need-add-put-high Inv-loop μ-loop
-add-put-high c = search needs
+add-put-byte : tie.Need-add-put-byte Inv-loop μ-loop
+add-put-byte c = search needs
 
-element-copy-out-put-high : tie.Need-element-copy-out-put-high Inv-loop μ-loop
-element-copy-out-put-high c = search needs
+element-copy-out-put-byte : tie.Need-element-copy-out-put-byte Inv-loop μ-loop
+element-copy-out-put-byte c = search needs
 
-put-high-requires : tie.Need-put-high-requires Inv-loop μ-loop
-put-high-requires c κs = search needs
+put-byte-requires : tie.Need-put-byte-requires Inv-loop μ-loop
+put-byte-requires c κs = search needs
 
 add-i : tie.Need-add-i Inv-loop μ-loop
 add-i c = search needs
@@ -49,10 +49,10 @@ put-body-spec =
     Inv-loop
     μ-loop
     loop-holds
-    mul-put-high
-    add-put-high
-    element-copy-out-put-high
-    put-high-requires
+    mul-put-byte
+    add-put-byte
+    element-copy-out-put-byte
+    put-byte-requires
     add-i
     loop-less
     loop-again

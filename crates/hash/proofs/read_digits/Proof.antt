@@ -18,14 +18,14 @@ returns c = search digits-9
 body-from-requires : tie.Need-body-from-requires
 body-from-requires c κs = search (passed, needs)
 
-low-pair-requires : tie.Need-low-pair-requires
-low-pair-requires c κs = search (passed, needs)
+byte-at-requires : tie.Need-byte-at-requires
+byte-at-requires c κs = search (passed, needs)
 
-low-pair-requires-2 : tie.Need-low-pair-requires-2
-low-pair-requires-2 c κs = search (passed, needs)
+byte-at-requires-2 : tie.Need-byte-at-requires-2
+byte-at-requires-2 c κs = search (passed, needs)
 
-low-pair-requires-3 : tie.Need-low-pair-requires-3
-low-pair-requires-3 c κs = search (passed, needs)
+byte-at-requires-3 : tie.Need-byte-at-requires-3
+byte-at-requires-3 c κs = search (passed, needs)
 
 returns-2 : tie.Need-returns-2
 returns-2 c = search digits-0
@@ -38,7 +38,7 @@ read-digits-spec =
     refused-requires
     returns
     body-from-requires
-    low-pair-requires
-    low-pair-requires-2
-    low-pair-requires-3
+    byte-at-requires
+    byte-at-requires-2
+    byte-at-requires-3
     returns-2)

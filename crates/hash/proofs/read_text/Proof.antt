@@ -1,6 +1,5 @@
 -- `hash::read_text` meets its contract: each answer is that of the definition.
 -- Assumes nothing.
-use Rattle.hash.proofs.Tests.{passed}
 use Rattle.hash.proofs.Reading.{read-6, read-8, read-9, read-0}
 use borrow.Author.Needs.{needs}
 use Rattle.hash.proofs.read_text.Statement.{statement}
@@ -15,8 +14,8 @@ refused-requires c κs = search needs
 returns : tie.Need-returns
 returns c = search read-6
 
-used-bytes-requires : tie.Need-used-bytes-requires
-used-bytes-requires c κs = search passed
+bytes-of-requires : tie.Need-bytes-of-requires
+bytes-of-requires c κs = search needs
 
 mul-if2 : tie.Need-mul-if2
 mul-if2 c = search needs
@@ -61,7 +60,7 @@ read-text-spec =
     is-known-requires
     refused-requires
     returns
-    used-bytes-requires
+    bytes-of-requires
     mul-if2
     add-if2
     refused-requires-2

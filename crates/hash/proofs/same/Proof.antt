@@ -1,40 +1,35 @@
 -- `hash::same` meets its contract: each answer is that of the definition.
 -- Assumes nothing.
-use Rattle.hash.proofs.Tests.{passed}
-use Rattle.hash.proofs.Sameness.{same-first, same-second, same-0}
+use Rattle.hash.proofs.Sameness.{same-6, same-0}
 use borrow.Author.Needs.{needs}
 use Rattle.hash.proofs.same.Statement.{statement}
 use Rattle.hash.proofs.same.Tie as tie
 
-is-known-requires : tie.Need-is-known-requires
-is-known-requires c κs = search needs
+both-known-requires : tie.Need-both-known-requires
+both-known-requires c κs = search needs
 
 returns : tie.Need-returns
-returns c = search same-first
+returns c = search same-6
 
-is-known-requires-2 : tie.Need-is-known-requires-2
-is-known-requires-2 c κs = search needs
+cast-bytes-of : tie.Need-cast-bytes-of
+cast-bytes-of c = search needs
 
-returns-2 : tie.Need-returns-2
-returns-2 c = search same-second
-
-used-bytes-requires : tie.Need-used-bytes-requires
-used-bytes-requires c κs = passed _ _ (c .before .before .before .is-known .ensures) (c .before .before .if1 .left)
+bytes-of-requires : tie.Need-bytes-of-requires
+bytes-of-requires c κs = search needs
 
 first-equal-requires : tie.Need-first-equal-requires
 first-equal-requires c κs = search needs
 
-returns-3 : tie.Need-returns-3
-returns-3 c = search same-0
+returns-2 : tie.Need-returns-2
+returns-2 c = search same-0
 
 pub same-spec : {M : Type 1} → statement M
 same-spec =
     tie.close
     (tie.spec
-    is-known-requires
+    both-known-requires
     returns
-    is-known-requires-2
-    returns-2
-    used-bytes-requires
+    cast-bytes-of
+    bytes-of-requires
     first-equal-requires
-    returns-3)
+    returns-2)

@@ -1,6 +1,5 @@
 -- `hash::text_size` meets its contract.
 -- Assumes nothing.
-use Rattle.hash.proofs.Tests.{passed}
 use Rattle.hash.proofs.Writing.{size-6, size-0}
 use borrow.Author.Needs.{needs}
 use Rattle.hash.proofs.text_size.Statement.{statement}
@@ -12,8 +11,8 @@ is-known-requires c κs = search needs
 returns : tie.Need-returns
 returns c = search size-6
 
-used-bytes-requires : tie.Need-used-bytes-requires
-used-bytes-requires c κs = search passed
+bytes-of-requires : tie.Need-bytes-of-requires
+bytes-of-requires c κs = search needs
 
 mul-t5 : tie.Need-mul-t5
 mul-t5 c = search needs
@@ -25,4 +24,5 @@ returns-2 : tie.Need-returns-2
 returns-2 c = search size-0
 
 pub text-size-spec : {M : Type 1} → statement M
-text-size-spec = tie.close (tie.spec is-known-requires returns used-bytes-requires mul-t5 add-t6 returns-2)
+text-size-spec =
+    tie.close (tie.spec is-known-requires returns bytes-of-requires mul-t5 add-t6 returns-2)

@@ -1,6 +1,5 @@
 -- `hash::write_text` meets its contract: each answer is that of the definition.
 -- Assumes nothing.
-use Rattle.hash.proofs.Tests.{passed}
 use Rattle.hash.proofs.Writing.{write-6, write-7, write-0}
 use borrow.Author.Needs.{needs}
 use Rattle.hash.proofs.write_text.Statement.{statement}
@@ -12,8 +11,11 @@ is-known-requires c κs = search needs
 returns : tie.Need-returns
 returns c = search write-6
 
-used-bytes-requires : tie.Need-used-bytes-requires
-used-bytes-requires c κs = search passed
+cast-bytes-of : tie.Need-cast-bytes-of
+cast-bytes-of c = search needs
+
+bytes-of-requires : tie.Need-bytes-of-requires
+bytes-of-requires c κs = search needs
 
 mul-if2 : tie.Need-mul-if2
 mul-if2 c = search needs
@@ -42,7 +44,8 @@ write-text-spec =
     (tie.spec
     is-known-requires
     returns
-    used-bytes-requires
+    cast-bytes-of
+    bytes-of-requires
     mul-if2
     add-if2
     returns-2
