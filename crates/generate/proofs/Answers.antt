@@ -67,8 +67,11 @@ module _ (s : State) (k : Bool) (e : k ≡ known (s .variant)) where
 -- the case that an answer to a question for the processed length comes from
 caseOf : LengthAnswer → Processed
 caseOf a =
-    cond (a .isKnown) (Known (a .length)) (cond (eqb (a .number) done) Unknown (cond (eqb (a .number) unknownVariant) UnknownVariant UnreachedState))
+    cond (a .isKnown)
+    (Known (a .length))
+    (cond (eqb (a .number) done) Unknown (cond (eqb (a .number) unknownVariant) UnknownVariant UnreachedState))
 
+-- it is the case that the answer stands for
 case-answer : (p : Processed) → caseOf (answerOf p) ≡ p
 unfolding caseOf
 case-answer (Known n) = refl

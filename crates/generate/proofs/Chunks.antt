@@ -19,6 +19,7 @@ unfolding feeds joined feed
 feeds-joined [] s = refl
 feeds-joined (xs ∷ xss) s = feeds-joined xss (feed xs s) ∙ sym (cut xs (joined xss) s)
 
+-- the two tests of an update, decided
 two-by : (s : State) (xs ys : List ℕ) (k m : Bool) → known (s .variant) ≡ k → marked (s .length) (s .«tail_len») ≡ m
     → updated (updated s xs .state) ys ≡ updated s (xs ++ ys)
 unfolding updated

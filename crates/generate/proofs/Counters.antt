@@ -42,13 +42,15 @@ pub record Tallied (v : ℕ) (cs : List ℕ) (n : ℕ) : Type 0 where
   pub exact : n < 2 ^ 32 → sum cs ≡ n
   pub unused : v ≡ 48 → (i : ℕ) → 49 ≤ i → getD cs i 0 ≡ 0
 
+-- a bumped counter is below 2^32, and so is every other
 small-by : (cs : List ℕ) (i j : ℕ) → i < length cs → getD cs j 0 < 2 ^ 32 → Dec (j ≡ i) → getD (bump cs i) j 0 < 2 ^ 32
 unfolding bump
 small-by cs i j h k (yes e) = rw (e, getD-set-same cs i ((getD cs i 0 + 1) % 2 ^ 32) 0 h) (omega arith)
 small-by cs i j h k (no n) = rw (getD-set-other cs i j ((getD cs i 0 + 1) % 2 ^ 32) 0 n) k
 
--- one more at a counter that the variant may count
-bump-tallied : (v : ℕ) {cs : List ℕ} {n : ℕ} (i : ℕ) → i < 256 → (v ≡ 48 → i < 49) → Tallied v cs n → Tallied v (bump cs i) (n + 1)
+-- one more at a counter that the variant counts adds one to the tally
+bump-tallied : (v : ℕ) {cs : List ℕ} {n : ℕ} (i : ℕ) → i < 256 → (v ≡ 48 → i < 49) → Tallied v cs n
+    → Tallied v (bump cs i) (n + 1)
 unfolding bump
 bump-tallied v {cs} {n} i h u t =
     let b = bump-sum cs i (omega (arith, t .wide)) in
@@ -61,12 +63,13 @@ bump-tallied v {cs} {n} i h u t =
           rw (getD-set-other cs i j ((getD cs i 0 + 1) % 2 ^ 32) 0 (λ q. absurd (omega arith))) (t .unused e j k);
     }
 
--- one more at a mapping's value
+-- so does one more at a mapping's value
 hit-tallied : (v a b c d : ℕ) {cs : List ℕ} {n : ℕ} → Tallied v cs n → Tallied v (bump cs (bucket v a b c d)) (n + 1)
 hit-tallied v a b c d t = bump-tallied v (bucket v a b c d) (bucket-lt v a b c d) (λ e. rw e (bucket-short a b c d)) t
 
 -- a counted byte adds six
-counted-tallied : (v b4 b3 b2 b1 b0 n : ℕ) {cs : List ℕ} → Tallied v cs (6 * n) → Tallied v (counted v cs b4 b3 b2 b1 b0) (6 * (n + 1))
+counted-tallied : (v b4 b3 b2 b1 b0 n : ℕ) {cs : List ℕ} → Tallied v cs (6 * n)
+    → Tallied v (counted v cs b4 b3 b2 b1 b0) (6 * (n + 1))
 unfolding counted
 counted-tallied v b4 b3 b2 b1 b0 n t =
     let e : 6 * n + 1 + 1 + 1 + 1 + 1 + 1 ≡ 6 * (n + 1) = omega arith in
@@ -79,25 +82,27 @@ counted-tallied v b4 b3 b2 b1 b0 n t =
     (hit-tallied v 2 b4 b3 b2 t))))))
 
 -- a state whose counters were counted six times for each byte of its length field
-abbrev pub Counted : State → Type 0
-Counted s = Tallied (s .variant) (s .counters) (6 * s .length)
+abbrev pub Sixfold : State → Type 0
+Sixfold s = Tallied (s .variant) (s .counters) (6 * s .length)
 
-step-counted : (s : State) (b : ℕ) → Counted s → Counted (step s b)
+-- a byte keeps that
+step-sixfold : (s : State) (b : ℕ) → Sixfold s → Sixfold (step s b)
 unfolding filled slid
-step-counted s b t = by-step s b Counted (λ h. t) (λ h l. counted-tallied (s .variant) b _ _ _ _ (s .length) t) (λ h l. t)
+step-sixfold s b t = by-step s b Sixfold (λ h. t) (λ h l. counted-tallied (s .variant) b _ _ _ _ (s .length) t) (λ h l. t)
 
--- bytes keep that
-pub feed-counted : (bs : List ℕ) (s : State) → Counted s → Counted (feed bs s)
-feed-counted = feed-keeps Counted step-counted
+-- so do any bytes
+pub feed-sixfold : (bs : List ℕ) (s : State) → Sixfold s → Sixfold (feed bs s)
+feed-sixfold = feed-keeps Sixfold step-sixfold
 
+-- a list of zeros has 0 at every place
 zeros : (n i : ℕ) → Dec (i < n) → _≡_ {A = ℕ} (getD (replicate n 0) i 0) 0
 zeros n i (yes h) = getD-replicate n i 0 0 h
 zeros n i (no h) = List·getD-eq-default (replicate n 0) 0 {n = i} (simp length-replicate (omega arith))
 
 -- a fresh state has it
-pub fresh-counted : (v : ℕ) → Counted (fresh v)
+pub fresh-sixfold : (v : ℕ) → Sixfold (fresh v)
 unfolding fresh sum
-fresh-counted v =
+fresh-sixfold v =
     record {
       wide = refl;
       small = λ i. rw (zeros 256 i (decLt i 256)) (omega arith);

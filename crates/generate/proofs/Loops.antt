@@ -2,7 +2,7 @@
 -- Assumes nothing.
 use mathlib.Core.Path.{_≡_, refl}
 use mathlib.Core.List.{List, [], _∷_}
-use Prim.Native.Nat.{ℕ, suc, _+_, _≤_, _<_}
+use Prim.Native.Nat.{ℕ, suc, _+_, _%_, _^_, _≤_, _<_}
 use native.Mathlib.Nat.{add-zero}
 use native.Mathlib.Numerals.{add-one}
 use native.Mathlib.Omega.{arith}
@@ -36,6 +36,11 @@ module _ {t : List ℕ} {n : ℕ} {xs : List ℕ} {i : ℕ} {u : List ℕ} (p : 
   -- after the last byte all are stored
   pub fills-all : length xs ≤ i → u ≡ sets t n xs
   fills-all h = rw (drop-of-length-le xs {i = i} h) at (p .same)
+
+-- the rolled-over sum stored at a counter is one more at it
+pub bumped : (cs : List ℕ) (i x : ℕ) → x ≡ (getD cs i 0 + 1) % 2 ^ 32 → set cs i x ≡ bump cs i
+unfolding bump
+bumped cs i x e = rw e
 
 -- six counters bumped in turn, each at its mapping's value, are the counters of a byte
 pub count-six : (v b4 : ℕ) (w : Window) (c0 : List ℕ) {c1 c2 c3 c4 c5 c6 : List ℕ}

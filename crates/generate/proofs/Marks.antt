@@ -38,6 +38,7 @@ pub record Fine (l n : ℕ) : Type 0 where
   pub stops : l ≤ stop
   pub empty : n < 4 → l ≡ 0
 
+-- a tail length below 4, or one of 4
 fine-by : (l n : ℕ) → Fine l n → Dec (n < 4) → marked l n ≡ false
 unfolding marked
 fine-by l n k (yes p) = rw (le-ltb 4 n (k .few), le-ltb stop l (k .stops), eq-eqb l 0 (k .empty p))
@@ -48,6 +49,7 @@ fine-by l n k (no p) =
 pub fine-unmarked : (l n : ℕ) → Fine l n → marked l n ≡ false
 fine-unmarked l n k = fine-by l n k (decLt n 4)
 
+-- neither of two tests passes where one of them would do
 or-left : (a b : Bool) → a || b ≡ false → a ≡ false
 or-left true b e = e
 or-left false b e = refl

@@ -18,10 +18,11 @@ use Rattle.generate.specs.Window.{moved, moves, hit, hits, Ran, Opened, 
 use Rattle.generate.proofs.Step.{step-filled, step-slid, cut-at, past-the-stop}
 use Rattle.generate.proofs.Marks.{unmarked-fine}
 
--- an unmarked state's tail length and length field are in their bounds
+-- an unmarked state's tail length is at most 4
 pub tail-bound : (l n : ℕ) → marked l n ≡ false → n ≤ 4
 tail-bound l n e = unmarked-fine l n e .few
 
+-- and its length field is at most its stop
 pub length-bound : (l n : ℕ) → marked l n ≡ false → l ≤ stop
 length-bound l n e = unmarked-fine l n e .stops
 
@@ -29,6 +30,7 @@ length-bound l n e = unmarked-fine l n e .stops
 least-length : (xs : List ℕ) (n m : ℕ) → n ≡ min (length xs) m → n ≡ length (take n xs)
 least-length xs n m e = omega (arith, length-take n xs)
 
+-- and if it is cut at what the tail lacks, it fits
 least-fits : (l k n : ℕ) → k ≤ 4 → n ≡ min l (4 - k) → k + n ≤ 4
 least-fits l k n p e = omega arith
 

@@ -18,7 +18,7 @@ use Rattle.generate.specs.declared.Processed.the-variants.{Known, Unknow
 use Rattle.generate.specs.Answer.{marked, updated, total, answerOf, processed}
 use Rattle.generate.proofs.Step.{by-step, cut, cut-at, past-the-stop}
 use Rattle.generate.proofs.Marks.{Fine, fine-unmarked}
-use Rattle.generate.proofs.Counters.{feed-counted, fresh-counted}
+use Rattle.generate.proofs.Counters.{feed-sixfold, fresh-sixfold}
 
 -- n bytes have led from s to t: t has no mark, its variant is that of s, and its processed length is n more, up to 2^32
 pub record Onward (n : ℕ) (s t : State) : Type 0 where
@@ -26,16 +26,20 @@ pub record Onward (n : ℕ) (s t : State) : Type 0 where
   pub same : t .variant ≡ s .variant
   pub more : total t ≡ min (2 ^ 32) (total s + n)
 
+-- one byte leads on from any state without a mark
 step-on : (s : State) (b : ℕ) → Fine (s .length) (s .«tail_len») → Onward 1 s (step s b)
 unfolding filled slid
 step-on s b k =
     by-step s b (Onward 1 s)
-    (λ h. let e = k .empty h in
+    (λ h.
+    let e = k .empty h in
     record { fine = record { few = omega arith; stops = k .stops; empty = λ l. e }; same = refl; more = omega arith })
-    (λ h l. record { fine = record { few = k .few; stops = omega arith; empty = λ q. absurd (omega arith) }; same = refl; more = omega (arith, k .few) })
+    (λ h l.
+    let f : Fine (s .length + 1) (s .«tail_len») = record { few = k .few; stops = omega arith; empty = λ q. absurd (omega arith) } in
+    record { fine = f; same = refl; more = omega (arith, k .few) })
     (λ h l. record { fine = k; same = refl; more = omega (arith, k .few, k .stops) })
 
--- bytes lead on from any state without a mark
+-- so do any bytes
 pub feed-on : (bs : List ℕ) (s : State) → Fine (s .length) (s .«tail_len») → Onward (length bs) s (feed bs s)
 unfolding feed
 feed-on [] s k = record { fine = k; same = refl; more = omega (arith, k .few, k .stops) }
@@ -56,20 +60,21 @@ full-stays bs s k e = past-the-stop bs s (omega (arith, k .stops)) (omega (arith
 module _ (v : ℕ) (bs : List ℕ) where
   -- there are 256 counters
   pub counters-256 : length (feed bs (fresh v) .counters) ≡ 256
-  counters-256 = feed-counted bs (fresh v) (fresh-counted v) .wide
+  counters-256 = feed-sixfold bs (fresh v) (fresh-sixfold v) .wide
 
   -- each counter is below 2^32
   pub counters-small : (i : ℕ) → getD (feed bs (fresh v) .counters) i 0 < 2 ^ 32
-  counters-small = feed-counted bs (fresh v) (fresh-counted v) .small
+  counters-small = feed-sixfold bs (fresh v) (fresh-sixfold v) .small
 
   -- the counters sum, modulo 2^32, to six times the length field
   pub six : sum (feed bs (fresh v) .counters) % 2 ^ 32 ≡ (6 * feed bs (fresh v) .length) % 2 ^ 32
-  six = feed-counted bs (fresh v) (fresh-counted v) .rolled
+  six = feed-sixfold bs (fresh v) (fresh-sixfold v) .rolled
 
   -- exactly, where that is below 2^32
   pub six-exact : 6 * feed bs (fresh v) .length < 2 ^ 32 → sum (feed bs (fresh v) .counters) ≡ 6 * feed bs (fresh v) .length
-  six-exact = feed-counted bs (fresh v) (fresh-counted v) .exact
+  six-exact = feed-sixfold bs (fresh v) (fresh-sixfold v) .exact
 
+  -- bytes lead on from a fresh state
   reached : Onward (length bs) (fresh v) (feed bs (fresh v))
   reached = feed-on bs (fresh v) (fresh-fine v)
 
@@ -103,7 +108,7 @@ reached-updated v bs xs e = rw (ap known (variant-stays v bs) ∙ e, reached-unm
 
 -- in the short variant the counters 49 to 255 stay 0
 pub short-unused : (bs : List ℕ) (i : ℕ) → 49 ≤ i → getD (feed bs (fresh 48) .counters) i 0 ≡ 0
-short-unused bs = feed-counted bs (fresh 48) (fresh-counted 48) .unused (variant-stays 48 bs)
+short-unused bs = feed-sixfold bs (fresh 48) (fresh-sixfold 48) .unused (variant-stays 48 bs)
 
 -- bytes after the first 2^32 change nothing
 pub first-bytes-only : (v : ℕ) (bs : List ℕ) → feed bs (fresh v) ≡ feed (take (2 ^ 32) bs) (fresh v)

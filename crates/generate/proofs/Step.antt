@@ -26,8 +26,9 @@ module _ (s : State) (b : ℕ) where
   unfolding step
   step-stopped h k = rw (le-ltb (s .«tail_len») 4 h, le-ltb (s .length) stop k)
 
-  module _ (P : State → Type 0) (p : s .«tail_len» < 4 → P (filled s b)) (q : 4 ≤ s .«tail_len» → s .length < stop → P (slid s b))
-      (r : 4 ≤ s .«tail_len» → stop ≤ s .length → P s) where
+  module _ (P : State → Type 0) (p : s .«tail_len» < 4 → P (filled s b))
+      (q : 4 ≤ s .«tail_len» → s .length < stop → P (slid s b)) (r : 4 ≤ s .«tail_len» → stop ≤ s .length → P s) where
+    -- the three cases, decided
     cases : Dec (s .«tail_len» < 4) → Dec (s .length < stop) → P (step s b)
     cases (yes h) d = subst P (sym (step-filled h)) (p h)
     cases (no h) (yes k) = subst P (sym (step-slid (omega arith) k)) (q (omega arith) k)
@@ -54,7 +55,8 @@ past-the-stop [] s h k = refl
 past-the-stop (x ∷ xs) s h k = ap (feed xs) (step-stopped s x h k) ∙ past-the-stop xs s h k
 
 -- what each byte keeps, a list of bytes keeps
-pub feed-keeps : (P : State → Type 0) → ((s : State) (b : ℕ) → P s → P (step s b)) → (bs : List ℕ) (s : State) → P s → P (feed bs s)
+pub feed-keeps : (P : State → Type 0) → ((s : State) (b : ℕ) → P s → P (step s b)) → (bs : List ℕ) (s : State) → P s
+    → P (feed bs s)
 unfolding feed
 feed-keeps P f [] s p = p
 feed-keeps P f (b ∷ bs) s p = feed-keeps P f bs (step s b) (f s b p)

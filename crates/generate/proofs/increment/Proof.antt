@@ -1,6 +1,6 @@
 -- `generate::increment` meets its contract: the counter is read, and one more is stored.
 -- Assumes nothing.
-use Rattle.generate.specs.Feed.{bump}
+use Rattle.generate.proofs.Loops.{bumped}
 use borrow.Author.Needs.{needs}
 use Rattle.generate.proofs.increment.Statement.{statement}
 use Rattle.generate.proofs.increment.Tie as tie
@@ -21,8 +21,7 @@ element-write-counters : tie.Need-element-write-counters
 element-write-counters c = search needs
 
 returns : tie.Need-returns
-unfolding bump
-returns c = cc
+returns c = search bumped
 
 pub increment-spec : {M : Type 1} → statement M
 increment-spec =
