@@ -19,7 +19,7 @@ ghost use Rattle.pearson.specs.Mapping.{bucket, lasts};
 ghost use Rattle.generate.specs.Feed.{fresh, bump, feed};
 ghost use Rattle.generate.specs.Answer.{marked, made, updated, processed, answerOf};
 ghost use Rattle.generate.specs.Window.{hit, Ran};
-ghost use Rattle.generate.specs.Places.{bumpBy, spread, Small, Lent, Marked, Scanned};
+ghost use Rattle.generate.specs.Places.{bumpBy, spread, Small, Lent, Marked, Scanned, Fours};
 
 // The counters stand first: the order of the fields decides how fast a copy is read.
 pub struct State {
@@ -292,8 +292,8 @@ fn spread_out(l: &[u8; 256], places: &[u32; 256], counters: &mut [u32; 256])
     }
 }
 
-// The counters and the window after later bytes: the fast loop, and the plain one for the last three at most.
-fn leap(
+// The fast loop, and its places spread.
+fn leap_with(
     p: &[u64; 256],
     t: &[u8; 256],
     l: &[u8; 256],
@@ -304,31 +304,53 @@ fn leap(
 ) -> Window
     requires lent { ⌜ Lent variant (now p) (now t) (now l) ⌝ }
     requires small { ⌜ Small (now counters) ⌝ }
+    requires fours { ⌜ length (now bytes) % 4 ≡ 0 ⌝ }
     ensures { λ r. ⌜ Ran variant (now (bytes .entry)) (now (counters .entry)) w (now (counters .exit)) r ⌝ }
 {
-    let m = bytes.len() / 4 * 4;
     let mut places = [0u32; 256];
-    let next = scan(p, t, l, &mut places, variant, w, &bytes[..m]);
+    let next = scan(p, t, l, &mut places, variant, w, bytes);
     spread_out(l, &places, counters);
-    run(t, l, counters, variant, next, &bytes[m..])
+    next
 }
 
-// The counters and the window after later bytes, with the variant's tables. Outside the short variant the last table is T itself.
+// The same with the variant's tables, where there are bytes at all. Outside the short variant the last table is T itself.
+fn leap(counters: &mut [u32; 256], variant: u32, w: Window, bytes: &[u8]) -> Window
+    requires small { ⌜ Small (now counters) ⌝ }
+    requires fours { ⌜ length (now bytes) % 4 ≡ 0 ⌝ }
+    ensures { λ r. ⌜ Ran variant (now (bytes .entry)) (now (counters .entry)) w (now (counters .exit)) r ⌝ }
+{
+    if bytes.len() == 0 {
+        return w;
+    }
+    let p = pearson::step_table();
+    let t = pearson::subst_table();
+    if variant == params::SHORT {
+        let short = pearson::last_table(variant);
+        return leap_with(&p, &t, &short, counters, variant, w, bytes);
+    }
+    leap_with(&p, &t, &t, counters, variant, w, bytes)
+}
+
+// How many of n bytes go through the fast loop: none of a few, and else all but the last three at most.
+fn fours(n: usize) -> usize
+    ensures { λ r. ⌜ Fours n r ⌝ }
+{
+    if n < FEW {
+        return 0;
+    }
+    n / 4 * 4
+}
+
+// The counters and the window after later bytes: some by the fast loop, the others by the plain one.
 fn count_all(counters: &mut [u32; 256], variant: u32, w: Window, bytes: &[u8]) -> Window
     requires { ⌜ Small (now counters) ⌝ }
     ensures { λ r. ⌜ Ran variant (now (bytes .entry)) (now (counters .entry)) w (now (counters .exit)) r ⌝ }
 {
+    let m = fours(bytes.len());
+    let next = leap(counters, variant, w, &bytes[..m]);
     let t = pearson::subst_table();
-    if bytes.len() < FEW {
-        let plain = pearson::last_table(variant);
-        return run(&t, &plain, counters, variant, w, bytes);
-    }
-    let p = pearson::step_table();
-    if variant == params::SHORT {
-        let short = pearson::last_table(variant);
-        return leap(&p, &t, &short, counters, variant, w, bytes);
-    }
-    leap(&p, &t, &t, counters, variant, w, bytes)
+    let l = pearson::last_table(variant);
+    run(&t, &l, counters, variant, next, &bytes[m..])
 }
 
 // A tail of n bytes with some more behind them.
