@@ -8,6 +8,11 @@
 // A state goes in by value and comes back by value. An update cuts its bytes into those that fill the tail, those that are counted,
 // and those past the stop, so that the loop over the counted ones tests nothing. That loop works on the counters where they lie, on
 // two lent tables, and on a small struct of scalars; a larger one would be copied at each byte.
+//
+// Two loops count, to the same end. The plain one looks each counter up and adds one to it. Its last lookup is F[z], where F is the
+// variant's table for the last byte, and adding commutes: so the fast one counts how often each z is met, its places, and adds all of
+// that in the end. It takes four bytes a turn, and the first lookups of a byte from one packed number. Adding in the end has its price,
+// so a few bytes go through the plain loop.
 ghost use mathlib.Core.Path.{_≡_};
 ghost use mathlib.Core.Bool.{false};
 ghost use mathlib.Core.List.{_∷_, []};
@@ -173,41 +178,38 @@ fn turn(
     requires wide { ⌜ length (now places) ≡ 256 ⌝ }
     ensures { λ r. ⌜ Scanned variant (b4 ∷ []) (now (places .entry)) w (now (places .exit)) r ⌝ }
 {
+    let b0 = w.b0;
+    let b1 = w.b1;
+    let b2 = w.b2;
+    let b3 = w.b3;
     let s = pearson::first_steps(p, b4);
-    mark(t, places, variant, (s / 256 % 256) as u8, w.b3, w.b2);
-    mark(t, places, variant, (s / 65_536 % 256) as u8, w.b3, w.b1);
-    mark(t, places, variant, (s / 16_777_216 % 256) as u8, w.b2, w.b1);
-    mark(
-        t,
-        places,
-        variant,
-        (s / 4_294_967_296 % 256) as u8,
-        w.b2,
-        w.b0,
-    );
+    mark(t, places, variant, (s / 256 % 256) as u8, b3, b2);
+    mark(t, places, variant, (s / 65_536 % 256) as u8, b3, b1);
+    mark(t, places, variant, (s / 16_777_216 % 256) as u8, b2, b1);
+    mark(t, places, variant, (s / 4_294_967_296 % 256) as u8, b2, b0);
     mark(
         t,
         places,
         variant,
         (s / 1_099_511_627_776 % 256) as u8,
-        w.b3,
-        w.b0,
+        b3,
+        b0,
     );
     mark(
         t,
         places,
         variant,
         (s / 281_474_976_710_656 % 256) as u8,
-        w.b1,
-        w.b0,
+        b1,
+        b0,
     );
-    let state = pearson::update(t, (s % 256) as u8, w.b3);
+    let state = pearson::update(t, (s % 256) as u8, b3);
     let checksum = pearson::last(l, variant, state, w.checksum);
     Window {
         checksum: checksum,
-        b0: w.b1,
-        b1: w.b2,
-        b2: w.b3,
+        b0: b1,
+        b1: b2,
+        b2: b3,
         b3: b4,
     }
 }
