@@ -10,7 +10,6 @@ ghost use mathlib.Core.Path.{_≡_};
 ghost use Prim.Native.Nat.{_+_, _*_, _≤_};
 ghost use lib.ListN.{length};
 ghost use Rattle.body.specs.Body.{codeOf, byteOf, bytesOf, bodyOf};
-
 use quartile::Quartiles;
 
 // The code of a counter.

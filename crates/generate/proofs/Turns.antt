@@ -14,7 +14,7 @@ use Rattle.pearson.proofs.Steps.{unpack}
 use Rattle.generate.specs.declared.Window.{Window}
 use Rattle.generate.specs.Feed.{bump, checked, counted}
 use Rattle.generate.specs.Window.{moved, moves, hit, hits, Ran}
-use Rattle.generate.specs.Places.{spread, counts, Small, Lent, Marked, Scanned}
+use Rattle.generate.specs.Places.{spread, counts, Small, Lent, Marked, Scanned, Fours}
 use Rattle.generate.proofs.Places.{spread-none}
 use Rattle.generate.proofs.Loops.{next}
 
@@ -117,12 +117,12 @@ module _ {v : ℕ} {xs rs₀ : List ℕ} {w₀ : Window} {i : ℕ} {rs : List �
         counters = λ cs. rw (drop-of-length-le xs {i = i} h) at (p .counters cs);
       }
 
--- all bytes but the last three at most: their number, and it is a number of fours
-pub fours-length : (xs : List ℕ) → length xs / 4 * 4 ≡ length (take (length xs / 4 * 4) xs)
-fours-length xs = omega (arith, length-take (length xs / 4 * 4) xs)
+-- a part of some fours has that length
+pub fours-length : (xs : List ℕ) (m : ℕ) → Fours (length xs) m → m ≡ length (take m xs)
+fours-length xs m f = omega (arith, length-take m xs, f .most)
 
-pub fours-whole : (xs : List ℕ) → length (take (length xs / 4 * 4) xs) % 4 ≡ 0
-fours-whole xs = omega (arith, length-take (length xs / 4 * 4) xs)
+pub fours-whole : (xs : List ℕ) (m : ℕ) → Fours (length xs) m → length (take m xs) % 4 ≡ 0
+fours-whole xs m f = omega (arith, length-take m xs, f .most, f .whole)
 
 -- outside the short variant T serves for the last byte too
 pub lent-other : (v : ℕ) (ps ts : List ℕ) → ps ≡ steps → ts ≡ table → (v ≡ 48 → ⊥) → Lent v ps ts ts
@@ -139,15 +139,30 @@ unfolding moves hits
 hits-cut v [] ys w cs = refl
 hits-cut v (x ∷ xs) ys w cs = hits-cut v xs ys (moved v w x) (hit v w cs x)
 
--- bytes cut after m: the first part scanned and spread, the rest run, are all of them run
-pub ran-parts : (v m : ℕ) (xs ls cs rs ds es : List ℕ) (w w1 w2 : Window) → ls ≡ lasts v → Small cs
-    → Scanned v (take m xs) (replicate 256 0) w rs w1 → ds ≡ spread cs rs ls
+-- bytes that are run in two parts are run
+pub ran-cut : (v m : ℕ) (xs cs ds es : List ℕ) (w w1 w2 : Window) → Ran v (take m xs) cs w ds w1
     → Ran v (take (length xs - m) (drop m xs)) ds w1 es w2 → Ran v xs cs w es w2
-unfolding counts
-ran-parts v m xs ls cs rs ds es w w1 w2 l small s d r =
+ran-cut v m xs cs ds es w w1 w2 p q =
     let all : take (length xs - m) (drop m xs) ≡ drop m xs = take-all (length xs - m) (drop m xs) (omega (arith, length-drop m xs)) in
-    let from : ds ≡ hits v (take m xs) w cs = d ∙ ap (spread cs rs) l ∙ s .counters cs ∙ ap (hits v (take m xs) w) (spread-none 256 cs (lasts v) small) in
+    let window = rw (all, p .window) at (q .window) in
+    let counters = rw (all, p .window, p .counters) at (q .counters) in
     record {
-      window = r .window ∙ rw (all, s .window) (sym (moves-cut v (take m xs) (drop m xs) w)) ∙ ap (λ (ys : List ℕ). moves v ys w) (take-append-drop m xs);
-      counters = r .counters ∙ rw (all, s .window, from) (sym (hits-cut v (take m xs) (drop m xs) w cs)) ∙ ap (λ (ys : List ℕ). hits v ys w cs) (take-append-drop m xs);
+      window = rw (take-append-drop m xs) at (window ∙ sym (moves-cut v (take m xs) (drop m xs) w));
+      counters = rw (take-append-drop m xs) at (counters ∙ sym (hits-cut v (take m xs) (drop m xs) w cs));
+    }
+
+-- no bytes are run where there are none
+pub ran-none : (v : ℕ) (xs cs : List ℕ) (w : Window) → length xs ≡ 0 → Ran v xs cs w cs w
+unfolding moves hits
+ran-none v [] cs w e = record { window = refl; counters = refl }
+ran-none v (x ∷ xs) cs w e = absurd (omega arith)
+
+-- bytes that are scanned from no numbers, and the numbers spread, are run
+pub ran-spread : (v : ℕ) (xs ls cs rs ds : List ℕ) (w w1 : Window) → ls ≡ lasts v → Small cs
+    → Scanned v xs (replicate 256 0) w rs w1 → ds ≡ spread cs rs ls → Ran v xs cs w ds w1
+unfolding counts
+ran-spread v xs ls cs rs ds w w1 l small s d =
+    record {
+      window = s .window;
+      counters = rw (d, l) (rw (spread-none 256 cs (lasts v) small) at (s .counters cs));
     }

@@ -8,6 +8,11 @@
 // A state goes in by value and comes back by value. An update cuts its bytes into those that fill the tail, those that are counted,
 // and those past the stop, so that the loop over the counted ones tests nothing. That loop works on the counters where they lie, on
 // two lent tables, and on a small struct of scalars; a larger one would be copied at each byte.
+//
+// Two loops count, to the same end. The plain one looks each counter up and adds one to it. Its last lookup is F[z], where F is the
+// variant's table for the last byte, and adding commutes: so the fast one counts how often each z is met, its places, and adds all of
+// that in the end. It takes four bytes a turn, and the first lookups of a byte from one packed number. Adding in the end has its price,
+// so a few bytes go through the plain loop.
 ghost use mathlib.Core.Path.{_≡_};
 ghost use mathlib.Core.Bool.{false};
 ghost use mathlib.Core.List.{_∷_, []};
@@ -19,7 +24,7 @@ ghost use Rattle.pearson.specs.Mapping.{bucket, lasts};
 ghost use Rattle.generate.specs.Feed.{fresh, bump, feed};
 ghost use Rattle.generate.specs.Answer.{marked, made, updated, processed, answerOf};
 ghost use Rattle.generate.specs.Window.{hit, Ran, Opened, CutsOf};
-ghost use Rattle.generate.specs.Places.{bumpBy, spread, Small, Lent, Marked, Scanned};
+ghost use Rattle.generate.specs.Places.{bumpBy, spread, Small, Lent, Marked, Scanned, Fours};
 
 // The counters stand first: the order of the fields decides how fast a copy is read.
 pub struct State {
@@ -181,41 +186,38 @@ fn turn(
     requires wide { ⌜ length (now places) ≡ 256 ⌝ }
     ensures { λ r. ⌜ Scanned variant (b4 ∷ []) (now (places .entry)) w (now (places .exit)) r ⌝ }
 {
+    let b0 = w.b0;
+    let b1 = w.b1;
+    let b2 = w.b2;
+    let b3 = w.b3;
     let s = pearson::first_steps(p, b4);
-    mark(t, places, variant, (s / 256 % 256) as u8, w.b3, w.b2);
-    mark(t, places, variant, (s / 65_536 % 256) as u8, w.b3, w.b1);
-    mark(t, places, variant, (s / 16_777_216 % 256) as u8, w.b2, w.b1);
-    mark(
-        t,
-        places,
-        variant,
-        (s / 4_294_967_296 % 256) as u8,
-        w.b2,
-        w.b0,
-    );
+    mark(t, places, variant, (s / 256 % 256) as u8, b3, b2);
+    mark(t, places, variant, (s / 65_536 % 256) as u8, b3, b1);
+    mark(t, places, variant, (s / 16_777_216 % 256) as u8, b2, b1);
+    mark(t, places, variant, (s / 4_294_967_296 % 256) as u8, b2, b0);
     mark(
         t,
         places,
         variant,
         (s / 1_099_511_627_776 % 256) as u8,
-        w.b3,
-        w.b0,
+        b3,
+        b0,
     );
     mark(
         t,
         places,
         variant,
         (s / 281_474_976_710_656 % 256) as u8,
-        w.b1,
-        w.b0,
+        b1,
+        b0,
     );
-    let state = pearson::update(t, (s % 256) as u8, w.b3);
+    let state = pearson::update(t, (s % 256) as u8, b3);
     let checksum = pearson::last(l, variant, state, w.checksum);
     Window {
         checksum: checksum,
-        b0: w.b1,
-        b1: w.b2,
-        b2: w.b3,
+        b0: b1,
+        b1: b2,
+        b2: b3,
         b3: b4,
     }
 }
@@ -300,8 +302,8 @@ fn spread_out(l: &[u8; 256], places: &[u32; 256], counters: &mut [u32; 256])
     }
 }
 
-// The counters and the window after later bytes: the fast loop, and the plain one for the last three at most.
-fn leap(
+// The fast loop, and its places spread.
+fn leap_with(
     p: &[u64; 256],
     t: &[u8; 256],
     l: &[u8; 256],
@@ -312,31 +314,53 @@ fn leap(
 ) -> Window
     requires lent { ⌜ Lent variant (now p) (now t) (now l) ⌝ }
     requires small { ⌜ Small (now counters) ⌝ }
+    requires fours { ⌜ length (now bytes) % 4 ≡ 0 ⌝ }
     ensures { λ r. ⌜ Ran variant (now (bytes .entry)) (now (counters .entry)) w (now (counters .exit)) r ⌝ }
 {
-    let m = bytes.len() / 4 * 4;
     let mut places = [0u32; 256];
-    let next = scan(p, t, l, &mut places, variant, w, &bytes[..m]);
+    let next = scan(p, t, l, &mut places, variant, w, bytes);
     spread_out(l, &places, counters);
-    run(t, l, counters, variant, next, &bytes[m..])
+    next
 }
 
-// The counters and the window after later bytes, with the variant's tables. Outside the short variant the last table is T itself.
+// The same with the variant's tables, where there are bytes at all. Outside the short variant the last table is T itself.
+fn leap(counters: &mut [u32; 256], variant: u32, w: Window, bytes: &[u8]) -> Window
+    requires small { ⌜ Small (now counters) ⌝ }
+    requires fours { ⌜ length (now bytes) % 4 ≡ 0 ⌝ }
+    ensures { λ r. ⌜ Ran variant (now (bytes .entry)) (now (counters .entry)) w (now (counters .exit)) r ⌝ }
+{
+    if bytes.len() == 0 {
+        return w;
+    }
+    let p = pearson::step_table();
+    let t = pearson::subst_table();
+    if variant == params::SHORT {
+        let short = pearson::last_table(variant);
+        return leap_with(&p, &t, &short, counters, variant, w, bytes);
+    }
+    leap_with(&p, &t, &t, counters, variant, w, bytes)
+}
+
+// How many of n bytes go through the fast loop: none of a few, and else all but the last three at most.
+fn fours(n: usize) -> usize
+    ensures { λ r. ⌜ Fours n r ⌝ }
+{
+    if n < FEW {
+        return 0;
+    }
+    n / 4 * 4
+}
+
+// The counters and the window after later bytes: some by the fast loop, the others by the plain one.
 fn count_all(counters: &mut [u32; 256], variant: u32, w: Window, bytes: &[u8]) -> Window
     requires { ⌜ Small (now counters) ⌝ }
     ensures { λ r. ⌜ Ran variant (now (bytes .entry)) (now (counters .entry)) w (now (counters .exit)) r ⌝ }
 {
+    let m = fours(bytes.len());
+    let next = leap(counters, variant, w, &bytes[..m]);
     let t = pearson::subst_table();
-    if bytes.len() < FEW {
-        let plain = pearson::last_table(variant);
-        return run(&t, &plain, counters, variant, w, bytes);
-    }
-    let p = pearson::step_table();
-    if variant == params::SHORT {
-        let short = pearson::last_table(variant);
-        return leap(&p, &t, &short, counters, variant, w, bytes);
-    }
-    leap(&p, &t, &t, counters, variant, w, bytes)
+    let l = pearson::last_table(variant);
+    run(&t, &l, counters, variant, next, &bytes[m..])
 }
 
 // A tail of n bytes with some more behind them.

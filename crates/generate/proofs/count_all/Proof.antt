@@ -1,9 +1,18 @@
--- `generate::count_all` meets its contract: each loop does, with the tables of the variant.
+-- `generate::count_all` meets its contract: what both parts of the bytes do is what all of them do.
 -- Assumes nothing.
-use Rattle.generate.proofs.Turns.{lent-other}
+use Rattle.generate.proofs.Turns.{fours-length, fours-whole, ran-cut}
 use borrow.Author.Needs.{needs}
 use Rattle.generate.proofs.count_all.Statement.{statement}
 use Rattle.generate.proofs.count_all.Tie as tie
+
+fours-requires : tie.Need-fours-requires
+fours-requires c κs = search needs
+
+slice-aggregate-leap : tie.Need-slice-aggregate-leap
+slice-aggregate-leap c = search fours-length
+
+leap-requires : tie.Need-leap-requires
+leap-requires c κs = search (fours-whole, needs)
 
 subst-table-requires : tie.Need-subst-table-requires
 subst-table-requires c κs = search needs
@@ -11,44 +20,32 @@ subst-table-requires c κs = search needs
 last-table-requires : tie.Need-last-table-requires
 last-table-requires c κs = search needs
 
+sub-run : tie.Need-sub-run
+sub-run c = search needs
+
+part-run-start : tie.Need-part-run-start
+part-run-start c = search needs
+
+part-run-end : tie.Need-part-run-end
+part-run-end c = search needs
+
 run-requires : tie.Need-run-requires
 run-requires c κs = search needs
 
 returns : tie.Need-returns
-returns c = search needs
-
-step-table-requires : tie.Need-step-table-requires
-step-table-requires c κs = search needs
-
-last-table-requires-2 : tie.Need-last-table-requires-2
-last-table-requires-2 c κs = search needs
-
-leap-requires : tie.Need-leap-requires
-leap-requires c κs = search needs
-
-returns-2 : tie.Need-returns-2
-returns-2 c = search needs
-
-leap-requires-2 : tie.Need-leap-requires-2
-leap-requires-2 c κs =
-    let other = c .before .before .before .before in
-    let first = other .before .before .before in
-    (lent-other _ _ _ (other .before .step-table .ensures) (first .subst-table .ensures) (other .if2 .left), first .before .before .pre)
-
-returns-3 : tie.Need-returns-3
-returns-3 c = search needs
+returns c = search ran-cut
 
 pub count-all-spec : {M : Type 1} → statement M
 count-all-spec =
     tie.close
     (tie.spec
+    fours-requires
+    slice-aggregate-leap
+    leap-requires
     subst-table-requires
     last-table-requires
+    sub-run
+    part-run-start
+    part-run-end
     run-requires
-    returns
-    step-table-requires
-    last-table-requires-2
-    leap-requires
-    returns-2
-    leap-requires-2
-    returns-3)
+    returns)
