@@ -20,9 +20,9 @@ use Rattle.hash.specs.declared.Digest.{Digest}
 use Rattle.hash.specs.Digest.{zeroDigest}
 use Rattle.generate.specs.declared.State.{State}
 use Rattle.generate.specs.Feed.{fresh, feed}
-use Rattle.generate.specs.Answer.{LengthAnswer, marked, total, processed}
+use Rattle.generate.specs.Answer.{LengthAnswer, processed}
 use Rattle.generate.specs.Chunks.{joined, feeds}
-use Rattle.generate.proofs.Reached.{variant-stays, reached-unmarked, taken}
+use Rattle.generate.proofs.Reached.{variant-stays, processed-below, processed-beyond}
 use Rattle.generate.proofs.Chunks.{feeds-joined}
 use Rattle.options.specs.declared.Options.{Options}
 use Rattle.options.specs.Options.{flags, has, chosen}
@@ -70,28 +70,16 @@ module _ (n : ℕ) (s : State) (o : Options) where
   steps : Steps
   steps = steps-by (decLt _ _)
 
--- the processed length of an input, below 2^32 and from there on
+-- below 2^32 the processed length is the number of bytes, and from there on it is unknown
 module _ (v : ℕ) (bytes : List ℕ) (k : known v ≡ true) where
   abbrev fed : State
   fed = feed bytes (fresh v)
 
-  length-known : length bytes < 2 ^ 32 → processed fed ≡ record { number = done; isKnown = true; length = length bytes }
-  unfolding processed
-  length-known h =
-      let t : total fed ≡ length bytes = omega (arith, taken v bytes) in
-      rw (variant-stays v bytes, k, reached-unmarked v bytes, t, lt-ltb (length bytes) (2 ^ 32) h)
-
-  length-unknown : 2 ^ 32 ≤ length bytes → processed fed ≡ record { number = done; isKnown = false; length = 0 }
-  unfolding processed
-  length-unknown h =
-      let t : total fed ≡ 2 ^ 32 = omega (arith, taken v bytes) in
-      rw (variant-stays v bytes, k, reached-unmarked v bytes, t)
-
   exact-by : (o : Options) → Dec (length bytes < 2 ^ 32) → finalizedWith fed o .number ≡ verdictWith v o bytes
   unfolding finalizedWith lengthed verdictWith maximum feed
-  exact-by o (yes h) = rw (length-known h) (rw (variant-stays v bytes) at (steps (length bytes) fed o))
+  exact-by o (yes h) = rw (processed-below v bytes k h) (rw (variant-stays v bytes) at (steps (length bytes) fed o))
   exact-by o (no h) =
-      rw (length-unknown (omega arith), lt-ltb 4_224_281_216 (length bytes) (omega arith)) (steps 4_294_967_295 fed o)
+      rw (processed-beyond v bytes k (omega arith), lt-ltb 4_224_281_216 (length bytes) (omega arith)) (steps 4_294_967_295 fed o)
 
 -- an unknown variant
 unknown-six : (v : ℕ) (bytes : List ℕ) (o : Options) → known v ≡ false → finalizedWith (feed bytes (fresh v)) o .number ≡ unknownVariant

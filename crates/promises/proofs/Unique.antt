@@ -1,10 +1,9 @@
 -- Every public promise leaves one answer and one content of lent memory: two that meet it are equal.
 -- Assumes nothing.
-use mathlib.Core.Path.{_≡_, refl, sym, _∙_, ap}
-use mathlib.Core.Bool.{Bool, true, false, true≢false, false≢true}
+use mathlib.Core.Path.{_≡_, sym, _∙_}
+use mathlib.Core.Bool.{Bool}
 use mathlib.Core.List.{List}
 use Prim.Native.Nat.{ℕ}
-use native.Mathlib.Omega.{arith}
 use Rattle.params.specs.Variants.{known}
 use Rattle.pearson.specs.declared.Mapped.{Mapped}
 use Rattle.pearson.specs.Table.{table}
@@ -31,8 +30,8 @@ use Rattle.hash.specs.Reading.{readOf}
 use Rattle.generate.specs.declared.State.{State}
 use Rattle.generate.specs.declared.StateAnswer.{StateAnswer}
 use Rattle.generate.specs.declared.Processed.{Processed}
-use Rattle.generate.specs.declared.Processed.the-variants.{Known, Unknown, UnknownVariant, UnreachedState}
-use Rattle.generate.specs.Answer.{LengthAnswer, marked, made, updated, answerOf, processed}
+use Rattle.generate.specs.Answer.{marked, made, updated, answerOf, processed}
+use Rattle.generate.proofs.Answers.{one-case}
 use Rattle.options.specs.declared.Options.{Options}
 use Rattle.options.specs.declared.Chosen.{Chosen}
 use Rattle.options.specs.Options.{clear, chosen}
@@ -131,27 +130,9 @@ is-marked l n = one (marked l n)
 update : (s : State) (bytes : List ℕ) → Unique StateAnswer (λ r. r ≡ updated s bytes)
 update s bytes = one (updated s bytes)
 
--- the cases of the processed length stand for different answers
-cases-differ : (a b : Processed) → answerOf a ≡ answerOf b → a ≡ b
-cases-differ (Known n) (Known m) e = ap Known (ap (λ (r : LengthAnswer). r .length) e)
-cases-differ (Known n) Unknown e = absurd (true≢false (ap (λ (r : LengthAnswer). r .isKnown) e))
-cases-differ (Known n) UnknownVariant e = absurd (true≢false (ap (λ (r : LengthAnswer). r .isKnown) e))
-cases-differ (Known n) UnreachedState e = absurd (true≢false (ap (λ (r : LengthAnswer). r .isKnown) e))
-cases-differ Unknown (Known m) e = absurd (false≢true (ap (λ (r : LengthAnswer). r .isKnown) e))
-cases-differ Unknown Unknown e = refl
-cases-differ Unknown UnknownVariant e = let z : _≡_ {A = ℕ} 0 6 = ap (λ (r : LengthAnswer). r .number) e in absurd (omega arith)
-cases-differ Unknown UnreachedState e = let z : _≡_ {A = ℕ} 0 19 = ap (λ (r : LengthAnswer). r .number) e in absurd (omega arith)
-cases-differ UnknownVariant (Known m) e = absurd (false≢true (ap (λ (r : LengthAnswer). r .isKnown) e))
-cases-differ UnknownVariant Unknown e = let z : _≡_ {A = ℕ} 6 0 = ap (λ (r : LengthAnswer). r .number) e in absurd (omega arith)
-cases-differ UnknownVariant UnknownVariant e = refl
-cases-differ UnknownVariant UnreachedState e = let z : _≡_ {A = ℕ} 6 19 = ap (λ (r : LengthAnswer). r .number) e in absurd (omega arith)
-cases-differ UnreachedState (Known m) e = absurd (false≢true (ap (λ (r : LengthAnswer). r .isKnown) e))
-cases-differ UnreachedState Unknown e = let z : _≡_ {A = ℕ} 19 0 = ap (λ (r : LengthAnswer). r .number) e in absurd (omega arith)
-cases-differ UnreachedState UnknownVariant e = let z : _≡_ {A = ℕ} 19 6 = ap (λ (r : LengthAnswer). r .number) e in absurd (omega arith)
-cases-differ UnreachedState UnreachedState e = refl
-
+-- the cases stand for different answers
 processed-len : (s : State) → Unique Processed (λ r. answerOf r ≡ processed s)
-processed-len s a b p q = cases-differ a b (p ∙ sym q)
+processed-len s a b p q = one-case a b (p ∙ sym q)
 
 -- ---- options
 new-options : Unique Options (λ r. r ≡ clear)
