@@ -286,7 +286,8 @@ fn input_of(line: &[u8]) -> Input
 
 // What a line asks.
 fn question_of(line: &[u8]) -> Question
-    ensures { λ r. ⌜ (r ≡ questionOf (now (line .entry))) × (r .piece ≤ 65_536) × (r .input .seed < 2_147_483_648) × (r .input .length < 4_294_967_296) ⌝ }
+    ensures { λ r. ⌜ (r ≡ questionOf (now (line .entry)))
+        × (r .piece ≤ 65_536) × (r .input .seed < 2_147_483_648) × (r .input .length < 4_294_967_296) ⌝ }
 {
     let variant = number_after(line, 0, 256);
     let options = number_after(line, 1, 31);
@@ -372,8 +373,10 @@ fn byte_by(n: Input, digits: &[u8], i: usize, x: u64) -> u8
 
 // Stores m bytes of an input, from byte i on, and answers x after their draws.
 fn fill(block: &mut [u8], m: usize, n: Input, digits: &[u8], i: usize, x: u64) -> u64
-    requires { ⌜ (m ≤ length (now block)) × (n .seed < 2_147_483_648) × (i + m < 4_294_967_296) × (x < 2_147_483_648) × (x ≡ drawnTimes i (n .seed)) ⌝ }
-    ensures { λ r. ⌜ (r ≡ drawnTimes (i + m) (n .seed)) × (r < 2_147_483_648) × (now (block .exit) ≡ bytesFrom n (now (digits .entry)) i m ++ drop m (now (block .entry))) ⌝ }
+    requires { ⌜ (m ≤ length (now block)) × (n .seed < 2_147_483_648)
+        × (i + m < 4_294_967_296) × (x < 2_147_483_648) × (x ≡ drawnTimes i (n .seed)) ⌝ }
+    ensures { λ r. ⌜ (r ≡ drawnTimes (i + m) (n .seed)) × (r < 2_147_483_648)
+        × (now (block .exit) ≡ bytesFrom n (now (digits .entry)) i m ++ drop m (now (block .entry))) ⌝ }
 {
     let mut y = x;
     let mut k = 0;
@@ -393,8 +396,10 @@ struct Fed {
 
 // Feeds m bytes of an input, from byte i on.
 fn feed_piece(s: State, m: usize, n: Input, digits: &[u8], i: usize, x: u64) -> Fed
-    requires { ⌜ (m ≤ 65_536) × (n .seed < 2_147_483_648) × (i + m < 4_294_967_296) × (x < 2_147_483_648) × (x ≡ drawnTimes i (n .seed)) ⌝ }
-    ensures { λ r. ⌜ (r .state ≡ updated s (bytesFrom n (now (digits .entry)) i m) .state) × (r .x ≡ drawnTimes (i + m) (n .seed)) × (r .x < 2_147_483_648) ⌝ }
+    requires { ⌜ (m ≤ 65_536) × (n .seed < 2_147_483_648)
+        × (i + m < 4_294_967_296) × (x < 2_147_483_648) × (x ≡ drawnTimes i (n .seed)) ⌝ }
+    ensures { λ r. ⌜ (r .state ≡ updated s (bytesFrom n (now (digits .entry)) i m) .state)
+        × (r .x ≡ drawnTimes (i + m) (n .seed)) × (r .x < 2_147_483_648) ⌝ }
 {
     let mut block = io::large_buffer();
     let y = fill(&mut block, m, n, digits, i, x);
