@@ -5,7 +5,7 @@ mod rules;
 use rules::{Line, PATTERN, PIECE, Source};
 use saltcurtain::{Options, Variant, digest_pieces};
 
-const LIST: &str = include_str!("../stored/answers.txt");
+const LIST: &str = include_str!("../../crates/replay/data/answers.txt");
 
 #[test]
 fn every_line_is_answered_as_the_rust_did() {

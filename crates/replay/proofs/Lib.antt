@@ -1,0 +1,3 @@
+mod Words
+mod Making
+mod Line
