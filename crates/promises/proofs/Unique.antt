@@ -4,9 +4,11 @@ use mathlib.Core.Path.{_≡_, sym, _∙_}
 use mathlib.Core.Bool.{Bool}
 use mathlib.Core.List.{List}
 use Prim.Native.Nat.{ℕ}
+use lib.Ieee.{Float}
 use Rattle.params.specs.Variants.{known}
 use Rattle.pearson.specs.declared.Mapped.{Mapped}
 use Rattle.pearson.specs.Table.{table}
+use Rattle.pearson.specs.Steps.{steps, packed}
 use Rattle.pearson.specs.Mapping.{after, own, bucket, lasts, mapped}
 use Rattle.length.specs.declared.Coded.{Coded}
 use Rattle.length.specs.declared.Limits.{Limits}
@@ -18,13 +20,14 @@ use Rattle.quartile.specs.Counts.{countLe, nonZero}
 use Rattle.quartile.specs.Quartile.{quartiles, answered}
 use Rattle.qratios.specs.declared.RatiosAnswer.{RatiosAnswer}
 use Rattle.qratios.specs.declared.ByteAnswer.{ByteAnswer}
-use Rattle.qratios.specs.Ratios.{ratiosOf, byteOf}
-use Rattle.body.specs.Body.{bodyOf}
+use Rattle.qratios.specs.Single.{single}
+use Rattle.qratios.specs.Ratios.{reduced, float, ratiosOf, byteOf}
+use Rattle.body.specs.Body.{bytesOf, bodyOf}
 use Rattle.hash.specs.declared.Digest.{Digest}
 use Rattle.hash.specs.declared.SameAnswer.{SameAnswer}
 use Rattle.hash.specs.declared.SizeAnswer.{SizeAnswer}
 use Rattle.hash.specs.declared.ReadAnswer.{ReadAnswer}
-use Rattle.hash.specs.Digest.{sameOf}
+use Rattle.hash.specs.Digest.{zeroDigest, sameOf}
 use Rattle.hash.specs.Text.{sizeOf, Wrote, writeOf, Written}
 use Rattle.hash.specs.Reading.{readOf}
 use Rattle.generate.specs.declared.State.{State}
@@ -77,6 +80,12 @@ b-mapping v a b c d = one (bucket v a b c d)
 mapping : (v a b c d : ℕ) → Unique Mapped (λ r. r ≡ mapped v a b c d)
 mapping v a b c d = one (mapped v a b c d)
 
+step-table : Unique (List ℕ) (λ r. r ≡ steps)
+step-table = one steps
+
+first-steps : (x : ℕ) → Unique ℕ (λ r. r ≡ packed x)
+first-steps x = one (packed x)
+
 -- ---- length
 length-code : (n : ℕ) → Unique Coded (λ r. r ≡ coded n)
 length-code n = one (coded n)
@@ -98,6 +107,12 @@ variant-quartiles : (v : ℕ) (counters : List ℕ) → Unique QuartilesAnswer (
 variant-quartiles v counters = one (answered v counters)
 
 -- ---- qratios
+times-100 : (q : ℕ) → Unique ℕ (λ r. r ≡ reduced q)
+times-100 q = one (reduced q)
+
+to-single : (n : ℕ) → Unique Float (λ r. r ≡ float (single n 1))
+to-single n = one (float (single n 1))
+
 quartile-ratios : (q1 q2 q3 : ℕ) → Unique RatiosAnswer (λ r. r ≡ ratiosOf q1 q2 q3)
 quartile-ratios q1 q2 q3 = one (ratiosOf q1 q2 q3)
 
@@ -105,6 +120,12 @@ ratios-byte : (q1 q2 q3 : ℕ) (integer : Bool) → Unique ByteAnswer (λ r. r �
 ratios-byte q1 q2 q3 integer = one (byteOf integer q1 q2 q3)
 
 -- ---- body and hash
+bytes-of : (n : ℕ) → Unique ℕ (λ r. r ≡ bytesOf n)
+bytes-of n = one (bytesOf n)
+
+zero-digest : Unique Digest (λ r. r ≡ zeroDigest)
+zero-digest = one zeroDigest
+
 body-of : (q : Quartiles) (used : List ℕ) → Unique (List ℕ) (λ r. r ≡ bodyOf q used)
 body-of q used = one (bodyOf q used)
 
