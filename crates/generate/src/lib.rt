@@ -480,7 +480,7 @@ pub fn new(variant: u32) -> StateAnswer
 }
 
 // Whether a length field and a tail length have one of the three marks of a state that no bytes reach.
-pub fn is_marked(length: u32, tail_len: u32) -> bool
+fn is_marked(length: u32, tail_len: u32) -> bool
     ensures { λ r. ⌜ r ≡ marked length «tail_len» ⌝ }
 {
     if TAIL_SIZE < tail_len {

@@ -33,7 +33,7 @@ use Rattle.hash.specs.Reading.{readOf}
 use Rattle.generate.specs.declared.State.{State}
 use Rattle.generate.specs.declared.StateAnswer.{StateAnswer}
 use Rattle.generate.specs.declared.Processed.{Processed}
-use Rattle.generate.specs.Answer.{marked, made, updated, answerOf, processed}
+use Rattle.generate.specs.Answer.{made, updated, answerOf, processed}
 use Rattle.generate.proofs.Answers.{one-case}
 use Rattle.options.specs.declared.Options.{Options}
 use Rattle.options.specs.declared.Chosen.{Chosen}
@@ -144,9 +144,6 @@ read-text v text = one (readOf v text)
 -- ---- generate
 new-state : (v : ℕ) → Unique StateAnswer (λ r. r ≡ made v)
 new-state v = one (made v)
-
-is-marked : (l n : ℕ) → Unique Bool (λ r. r ≡ marked l n)
-is-marked l n = one (marked l n)
 
 update : (s : State) (bytes : List ℕ) → Unique StateAnswer (λ r. r ≡ updated s bytes)
 update s bytes = one (updated s bytes)
