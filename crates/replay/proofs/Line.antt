@@ -122,7 +122,7 @@ module _ (line : List ℕ) (d : Digest) (t : SizeAnswer) (e : t ≡ sizeOf (d .v
 module _ (d : Digest) (size r : ℕ) (text : List ℕ) (room : size ≤ 136) (s : size ≡ textSize (d .variant)) (k : known (d .variant) ≡ true)
     (l : length (d .body) ≡ 64) (w : Written r text (writeOf d (replicate 136 0))) where
   text-long : length (textOf d) ≡ size
-  text-long = length-text d k l ∙ sym s
+  text-long = length-text d l ∙ sym s
 
   -- the front of what was written is the text
   front-text : take size text ≡ textOf d
