@@ -65,15 +65,30 @@ pub value-digit : (n : ℕ) → n < 16 → valueOf (digitOf n) ≡ n
 unfolding valueOf digitOf
 value-digit n h = eqb→eq (valueOf (digitOf n)) n (below (λ (x : ℕ). eqb (valueOf (digitOf x)) x) 16 tt n h)
 
--- below 10 the character of a number is one of 0 to 9
-pub digit-low : (n : ℕ) → n < 10 → 48 + n ≡ digitOf n
-unfolding digitOf
-digit-low n h = rw (lt-ltb n 10 h)
+-- up to 9 nothing is added for the gap before A
+pub past-low : (n : ℕ) → n < 10 → _≡_ {A = ℕ} 0 (cond (ltb n 10) 0 7)
+past-low n h = rw (lt-ltb n 10 h)
 
--- from 10 on it is one of A to F
-pub digit-high : (n : ℕ) → 10 ≤ n → 55 + n ≡ digitOf n
+-- from 10 on the gap is
+pub past-high : (n : ℕ) → 10 ≤ n → _≡_ {A = ℕ} 7 (cond (ltb n 10) 0 7)
+past-high n h = rw (le-ltb n 10 h)
+
+-- the gap is at most 7, so the sum fits a byte
+pub digit-fits : (n x : ℕ) → n < 16 → x ≡ cond (ltb n 10) 0 7 → 48 + n + x < 256
+digit-fits n x h e = go (ltb n 10) refl
+  where
+    go : (b : Bool) → ltb n 10 ≡ b → 48 + n + x < 256
+    go true p = let z : x ≡ 0 = rw p at e in omega arith
+    go false p = let z : x ≡ 7 = rw p at e in omega arith
+
+-- the character of a number counts from that of 0, and the gap comes on top
+pub digit-made : (n x : ℕ) → x ≡ cond (ltb n 10) 0 7 → 48 + n + x ≡ digitOf n
 unfolding digitOf
-digit-high n h = rw (le-ltb n 10 h)
+digit-made n x e = go (ltb n 10) refl
+  where
+    go : (b : Bool) → ltb n 10 ≡ b → 48 + n + x ≡ cond (ltb n 10) (48 + n) (55 + n)
+    go true p = let z : x ≡ 0 = rw p at e in rw p (omega arith)
+    go false p = let z : x ≡ 7 = rw p at e in rw p (omega arith)
 
 -- up to 9 the value of a digit counts from the character of 0
 pub value-low : (c : ℕ) → c ≤ 57 → c - 48 ≡ valueOf c

@@ -1,6 +1,7 @@
 pub mod Tests
 pub mod Digits
 pub mod Writing
+pub mod Apart
 pub mod Reading
 pub mod RoundTrip
 pub mod Accepted

@@ -1,4 +1,4 @@
--- The laws that the writer's functions cite: the stores one after the other, the body's loop, the text's size, and each answer.
+-- The laws that the writer's functions cite: the stores one after the other, a variant's body, the text's size, and each answer.
 -- Assumes nothing.
 use mathlib.Core.Path.{_≡_, refl, sym, _∙_, ap}
 use mathlib.Core.Bool.{Bool, true, false, not}
@@ -11,6 +11,7 @@ use lib.ListN.{length, getD, set, take, drop, length-set}
 use lib.Seq.{sets, length-sets, sets-eq, take-suc, length-take-le}
 use borrow.Author.Tests.{lt-ltb, le-ltb}
 use Rattle.params.specs.Variants.{known}
+use Rattle.params.proofs.Variants.{by-variant}
 use Rattle.params.specs.Answers.{done, unknownVariant, shortDestination}
 use Rattle.hash.specs.declared.Digest.{Digest}
 use Rattle.hash.specs.declared.SizeAnswer.{SizeAnswer}
@@ -18,7 +19,7 @@ use Rattle.body.specs.Body.{bytesOf}
 use Rattle.hash.specs.Text.{sizeOf, digitOf, lowFirst, highFirst, headText, bodyText, textOf, textSize, Written, writeOf}
 
 -- two lists of stores, one after the other
-sets-append : (vs ws l : List ℕ) (i : ℕ) → sets l i (vs ++ ws) ≡ sets (sets l i vs) (i + length vs) ws
+pub sets-append : (vs ws l : List ℕ) (i : ℕ) → sets l i (vs ++ ws) ≡ sets (sets l i vs) (i + length vs) ws
 sets-append [] ws l i = rw add-zero
 sets-append (v ∷ vs) ws l i =
     let e : i + suc (length vs) ≡ suc i + length vs = omega arith in
@@ -38,42 +39,28 @@ pub head-stored : (x y z : ℕ) (l l₁ l₂ l₃ l₄ : List ℕ) → l₁ ≡ 
     → l₃ ≡ sets l₂ 4 (lowFirst y) → l₄ ≡ sets l₃ 6 (lowFirst z) → l₄ ≡ sets l 0 (headText x y z)
 head-stored x y z l l₁ l₂ l₃ l₄ e₁ e₂ e₃ e₄ = rw (e₄, e₃, e₂, e₁)
 
--- the text of two rows of bytes is that of the first, and then that of the second
-text-append : (xs ys : List ℕ) → bodyText (xs ++ ys) ≡ bodyText xs ++ bodyText ys
-text-append [] ys = refl
-text-append (x ∷ xs) ys = ap (λ (l : List ℕ). highFirst x ++ l) (text-append xs ys)
-
 -- each byte has two digits
 length-bodyText : (xs : List ℕ) → length (bodyText xs) ≡ 2 * length xs
 length-bodyText [] = refl
 length-bodyText (x ∷ xs) = omega (arith, length-bodyText xs)
 
--- what the body's loop keeps: the digits of the first i bytes are stored
-pub record Puts (destination₀ body : List ℕ) (m i : ℕ) (destination : List ℕ) : Type 0 where
-  pub within : i ≤ m
-  pub long : length destination ≡ length destination₀
-  pub holds : destination ≡ sets destination₀ 8 (bodyText (take i body))
+-- where the bytes of the number that a variant is are stored, the m of the variant are
+pub stored : (v n m : ℕ) (destination l body : List ℕ) → v ≡ n → m ≡ bytesOf v → l ≡ sets destination 8 (bodyText (take (bytesOf n) body))
+    → l ≡ sets destination 8 (bodyText (take m body))
+stored v n m destination l body e u q = rw (u, e) q
 
--- at the start nothing is
-pub puts-none : (destination body : List ℕ) (m : ℕ) → Puts destination body m 0 destination
-puts-none destination body m = record { within = omega arith; long = refl; holds = refl }
+-- a known variant that is neither 48 nor 128 is 256
+else-256 : (v : ℕ) → known v ≡ true → (v ≡ 48 → ⊥) → (v ≡ 128 → ⊥) → v ≡ 256
+else-256 = by-variant (λ v. (v ≡ 48 → ⊥) → (v ≡ 128 → ⊥) → v ≡ 256) (λ a b. absurd (a refl)) (λ a b. absurd (b refl)) (λ a b. refl)
 
--- a turn stores those of the next byte
-pub puts-more : (destination₀ body destination l : List ℕ) (m i : ℕ) → Puts destination₀ body m i destination → i < m → m ≤ 64
-    → length body ≡ 64 → l ≡ sets destination (8 + 2 * i) (highFirst (getD body i 0)) → Puts destination₀ body m (i + 1) l
-puts-more destination₀ body destination l m i p h k b e =
-    let front = bodyText (take i body) in
-    let n : length front ≡ 2 * i = length-bodyText (take i body) ∙ ap (λ (k : ℕ). 2 * k) (length-take-le i body (omega arith)) in
-    let w : l ≡ sets destination₀ 8 (bodyText (take (i + 1) body)) =
-    e ∙ rw (p .holds, add-one i, take-suc body i 0 (omega arith), text-append, sets-append front, n) in
-    record { within = omega arith; long = rw (w, length-sets); holds = w }
+-- so there is room for 64 bytes
+pub room-else : (v m k : ℕ) → known v ≡ true → (v ≡ 48 → ⊥) → (v ≡ 128 → ⊥) → m ≡ bytesOf v → 8 + 2 * m ≤ k → 136 ≤ k
+room-else v m k e a b u h = rw (u, else-256 v e a b) at h
 
--- at the end the whole text of the body is
-pub puts-all : (destination₀ body destination : List ℕ) (m i : ℕ) → Puts destination₀ body m i destination → m ≤ i
-    → destination ≡ sets destination₀ 8 (bodyText (take m body))
-puts-all destination₀ body destination m i p h =
-    let e : i ≡ m = omega (arith, p .within) in
-    rw (← e) (p .holds)
+-- and those 64 are the m
+pub stored-else : (v m : ℕ) (destination l body : List ℕ) → known v ≡ true → (v ≡ 48 → ⊥) → (v ≡ 128 → ⊥) → m ≡ bytesOf v
+    → l ≡ sets destination 8 (bodyText (take 64 body)) → l ≡ sets destination 8 (bodyText (take m body))
+stored-else v m destination l body e a b u q = stored v 256 m destination l body (else-256 v e a b) u q
 
 -- the text of a record with a body of 64 bytes has its variant's size
 pub length-text : (d : Digest) → length (d .body) ≡ 64 → length (textOf d) ≡ textSize (d .variant)

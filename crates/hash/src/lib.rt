@@ -9,15 +9,17 @@
 // The reader takes that form and no other. It tests the size, splits `T1` off, and what is left is one function's work
 // (`read_digits`), in which `is_digit` alone judges a character.
 ghost use mathlib.Core.Path.{_≡_};
-ghost use mathlib.Core.Bool.{true, _&&_};
+ghost use mathlib.Core.Bool.{true, cond, _&&_};
 ghost use mathlib.Core.List.{_∷_, []};
-ghost use Prim.Native.Nat.{_+_, _*_, _≤_, _<_};
+ghost use Prim.Native.Nat.{_+_, _*_, _/_, _%_, _≤_, _<_};
+ghost use lib.Dec.{ltb};
 ghost use lib.ListN.{length, take};
 ghost use lib.Seq.{sets};
 ghost use Rattle.params.specs.Variants.{known};
 ghost use Rattle.hash.specs.Digest.{zeroDigest, firstEqual, sameOf};
-ghost use Rattle.hash.specs.Text.{sizeOf, digitOf, highFirst, headText, bodyText, Written, writeOf};
-ghost use Rattle.hash.specs.Reading.{isDigit, valueOf, allDigits, byteAt, bodyFrom};
+ghost use Rattle.body.specs.Body.{bytesOf};
+ghost use Rattle.hash.specs.Text.{sizeOf, digitOf, headText, bodyText, rowsOf, inTurn, Written, writeOf};
+ghost use Rattle.hash.specs.Reading.{isDigit, valueOf, allDigits, byteAt, bytesFrom, bodyFrom};
 ghost use Rattle.hash.specs.Reading.{refusedRead, digitsOf, beginsT1, readOf};
 
 // The body stands first, so that a copy of it lies on a word's bounds. The ratio of q1 is in the low four bits of `ratios`.
@@ -46,6 +48,12 @@ pub struct SizeAnswer {
 pub struct ReadAnswer {
     pub number: u32,
     pub digest: Digest,
+}
+
+// The digits of a row of bytes: the high ones, and the low ones; 0 after them.
+struct Rows {
+    high: [u8; 64],
+    low: [u8; 64],
 }
 
 // The digest that stands beside a refusal.
@@ -121,12 +129,19 @@ pub fn same(a: Digest, b: Digest) -> SameAnswer
     }
 }
 
+// How many characters stand between 9 and A, for a digit past 9.
+fn past_nine(n: u8) -> u8
+    ensures { λ r. ⌜ r ≡ cond (ltb n 10) 0 7 ⌝ }
+{
+    if n < 10 { 0 } else { 7 }
+}
+
 // The character of a digit.
 fn digit_of(n: u8) -> u8
     requires { ⌜ n < 16 ⌝ }
     ensures { λ r. ⌜ r ≡ digitOf n ⌝ }
 {
-    if n < 10 { 48 + n } else { 55 + n }
+    48 + n + past_nine(n)
 }
 
 // Stores two digits at a place.
@@ -138,12 +153,18 @@ fn put(destination: &mut [u8], at: usize, first: u8, second: u8)
     destination[at + 1] = digit_of(second);
 }
 
-// Stores a byte's digits, the high one first.
-fn put_byte(destination: &mut [u8], at: usize, b: u8)
-    requires { ⌜ at + 2 ≤ length (now destination) ⌝ }
-    ensures { λ _. ⌜ now (destination .exit) ≡ sets (now (destination .entry)) at (highFirst b) ⌝ }
+// A byte's high digit.
+fn high_digit(b: u8) -> u8
+    ensures { λ r. ⌜ r ≡ digitOf (b / 16) ⌝ }
 {
-    put(destination, at, b / 16, b % 16);
+    digit_of(b / 16)
+}
+
+// A byte's low digit.
+fn low_digit(b: u8) -> u8
+    ensures { λ r. ⌜ r ≡ digitOf (b % 16) ⌝ }
+{
+    digit_of(b % 16)
 }
 
 // Stores `T1` at the front.
@@ -166,16 +187,60 @@ fn put_head(destination: &mut [u8], checksum: u8, length_code: u8, ratios: u8)
     put(destination, 6, ratios % 16, ratios / 16);
 }
 
-// Stores the digits of the first m bytes of a body, from place 8 on.
-fn put_body(destination: &mut [u8], body: &[u8; 64], m: usize)
-    requires { ⌜ (m ≤ 64) × (length (now body) ≡ 64) × (8 + 2 * m ≤ length (now destination)) ⌝ }
-    ensures { λ _. ⌜ now (destination .exit) ≡ sets (now (destination .entry)) 8 (bodyText (take m (now (body .entry)))) ⌝ }
+// The high and the low digits of the first m bytes of a body, apart, so that sixteen are made at once.
+fn rows_of(body: &[u8; 64], m: usize) -> Rows
+    requires { ⌜ (m ≤ 64) × (length (now body) ≡ 64) ⌝ }
+    ensures { λ r. ⌜ r ≡ rowsOf (take m (now (body .entry))) ⌝ }
+{
+    let mut high = [0u8; 64];
+    let mut low = [0u8; 64];
+    let mut i = 0;
+    while i < m {
+        high[i] = high_digit(body[i]);
+        low[i] = low_digit(body[i]);
+        i += 1;
+    }
+    Rows { high, low }
+}
+
+// Stores m digits of two rows in turn, from place 8 on.
+fn put_pairs(destination: &mut [u8], high: &[u8; 64], low: &[u8; 64], m: usize)
+    requires { ⌜ (m ≤ 64) × (length (now high) ≡ 64) × (length (now low) ≡ 64) × (8 + 2 * m ≤ length (now destination)) ⌝ }
+    ensures { λ _. ⌜ now (destination .exit) ≡ sets (now (destination .entry)) 8 (inTurn (take m (now (high .entry))) (take m (now (low .entry)))) ⌝ }
 {
     let mut i = 0;
     while i < m {
-        put_byte(destination, 8 + 2 * i, body[i]);
+        destination[8 + 2 * i] = high[i];
+        destination[9 + 2 * i] = low[i];
         i += 1;
     }
+}
+
+// Stores the digits of the first m bytes of a body, from place 8 on.
+fn put_bytes(destination: &mut [u8], body: &[u8; 64], m: usize)
+    requires { ⌜ (m ≤ 64) × (length (now body) ≡ 64) × (8 + 2 * m ≤ length (now destination)) ⌝ }
+    ensures { λ _. ⌜ now (destination .exit) ≡ sets (now (destination .entry)) 8 (bodyText (take m (now (body .entry)))) ⌝ }
+{
+    let rows = rows_of(body, m);
+    let high = rows.high;
+    let low = rows.low;
+    put_pairs(destination, &high, &low, m);
+}
+
+// Stores the digits of the m bytes that a variant uses. Each number is spelled out, so that the compiler can lay the turns side by side.
+fn put_body(destination: &mut [u8], body: &[u8; 64], variant: u32, m: usize)
+    requires { ⌜ (known variant ≡ true) × (m ≡ bytesOf variant) × (length (now body) ≡ 64) × (8 + 2 * m ≤ length (now destination)) ⌝ }
+    ensures { λ _. ⌜ now (destination .exit) ≡ sets (now (destination .entry)) 8 (bodyText (take m (now (body .entry)))) ⌝ }
+{
+    if variant == params::SHORT {
+        put_bytes(destination, body, 12);
+        return;
+    }
+    if variant == params::NORMAL {
+        put_bytes(destination, body, 32);
+        return;
+    }
+    put_bytes(destination, body, 64);
 }
 
 // Writes the text at the front of the destination; 6, then 7, with nothing written.
@@ -195,7 +260,7 @@ pub fn write_text(digest: Digest, destination: &mut [u8]) -> u32
         digest.length_code,
         digest.ratios,
     );
-    put_body(destination, &digest.body, m);
+    put_body(destination, &digest.body, digest.variant, m);
     params::DONE
 }
 
@@ -227,6 +292,29 @@ fn all_digits(t: &[u8]) -> bool
     good
 }
 
+// Where a block of a row begins that would begin at i: the last one begins so that it ends with the row.
+fn block_at(i: usize, last: usize) -> usize
+    ensures { λ r. ⌜ (r ≡ cond (ltb i last) i last) × (r ≤ last) ⌝ }
+{
+    if i < last { i } else { last }
+}
+
+// The same of sixteen characters and more, sixteen at a time. The last sixteen may begin among those that were tested.
+fn all_blocks(t: &[u8]) -> bool
+    requires { ⌜ 16 ≤ length (now t) ⌝ }
+    ensures { λ r. ⌜ r ≡ allDigits (now (t .entry)) ⌝ }
+{
+    let mut i = 0;
+    while i < t.len() {
+        let at = block_at(i, t.len() - 16);
+        if !all_digits(&t[at..at + 16]) {
+            return false;
+        }
+        i += 16;
+    }
+    true
+}
+
 // The byte whose low digit stands at one place, and its high digit at another.
 fn byte_at(t: &[u8], low: usize, high: usize) -> u8
     requires { ⌜ (allDigits (now t) ≡ true) × (low < length (now t)) × (high < length (now t)) ⌝ }
@@ -235,16 +323,29 @@ fn byte_at(t: &[u8], low: usize, high: usize) -> u8
     value_of(t[low]) + 16 * value_of(t[high])
 }
 
-// The body: m bytes from place 6 on, and 0 after them.
+// Stores the bytes of sixteen digits at a place of a body.
+fn take_block(body: &mut [u8; 64], at: usize, t: &[u8])
+    requires { ⌜ (allDigits (now t) ≡ true) × (length (now t) ≡ 16) × (length (now body) ≡ 64) × (at + 8 ≤ 64) ⌝ }
+    ensures { λ _. ⌜ now (body .exit) ≡ sets (now (body .entry)) at (bytesFrom (now (t .entry))) ⌝ }
+{
+    let mut j = 0;
+    while j < 8 {
+        body[at + j] = byte_at(t, 2 * j + 1, 2 * j);
+        j += 1;
+    }
+}
+
+// The body: m bytes from place 6 on, eight at a time, and 0 after them. The last eight may begin among those that are there.
 fn body_from(t: &[u8], m: usize) -> [u8; 64]
-    requires { ⌜ (allDigits (now t) ≡ true) × (m ≤ 64) × (length (now t) ≡ 6 + 2 * m) ⌝ }
+    requires { ⌜ (allDigits (now t) ≡ true) × (8 ≤ m) × (m ≤ 64) × (length (now t) ≡ 6 + 2 * m) ⌝ }
     ensures { λ r. ⌜ r ≡ bodyFrom (now (t .entry)) ⌝ }
 {
     let mut body = [0u8; 64];
     let mut i = 0;
     while i < m {
-        body[i] = byte_at(t, 7 + 2 * i, 6 + 2 * i);
-        i += 1;
+        let at = block_at(i, m - 8);
+        take_block(&mut body, at, &t[6 + 2 * at..22 + 2 * at]);
+        i += 8;
     }
     body
 }
@@ -261,10 +362,10 @@ fn refused(number: u32) -> ReadAnswer
 
 // Reads what stands after `T1`, two characters for each byte; 9 where one of them is no digit.
 fn read_digits(variant: u32, m: usize, t: &[u8]) -> ReadAnswer
-    requires { ⌜ (m ≤ 64) × (length (now t) ≡ 6 + 2 * m) ⌝ }
+    requires { ⌜ (8 ≤ m) × (m ≤ 64) × (length (now t) ≡ 6 + 2 * m) ⌝ }
     ensures { λ r. ⌜ r ≡ digitsOf variant (now (t .entry)) ⌝ }
 {
-    if !all_digits(t) {
+    if !all_blocks(t) {
         return refused(params::WRONG_CHARACTER);
     }
     let body = body_from(t, m);

