@@ -5,3 +5,4 @@ pub mod judge;
 pub mod mapped;
 pub mod oracle;
 pub mod random;
+pub mod timed;

@@ -1,5 +1,6 @@
 //! The first judge: fast-tlsh, asked with the port's numbers.
 use saltcurtain::Variant;
+use std::hint::black_box;
 use tlsh::hashes::{Long, Normal, Short};
 use tlsh::length::FuzzyHashLengthEncoding;
 use tlsh::{
@@ -134,6 +135,48 @@ pub fn rewrite_into(variant: Variant, text: &[u8], room: &mut [u8]) -> bool {
 fn rewrite_by<T: FuzzyHashType>(text: &[u8], room: &mut [u8]) -> bool {
     let prefix = HexStringPrefix::WithVersion;
     T::from_str_bytes(text, Some(prefix)).is_ok_and(|digest| digest.store_into_str_bytes(room, prefix).is_ok())
+}
+
+/// A digest that was read: what is written when that is measured.
+pub enum Held {
+    /// With 48 buckets.
+    Short(Short),
+    /// With 128 buckets.
+    Normal(Normal),
+    /// With 256 buckets.
+    Long(Long),
+}
+
+impl Held {
+    /// From a text with `T1`.
+    pub fn new(variant: Variant, text: &[u8]) -> Option<Self> {
+        let prefix = Some(HexStringPrefix::WithVersion);
+        match variant {
+            Variant::Short => Short::from_str_bytes(text, prefix).ok().map(Self::Short),
+            Variant::Normal => Normal::from_str_bytes(text, prefix).ok().map(Self::Normal),
+            Variant::Long => Long::from_str_bytes(text, prefix).ok().map(Self::Long),
+        }
+    }
+
+    /// Its text, to the start of `room`.
+    pub fn write_into(&self, room: &mut [u8]) -> bool {
+        let prefix = HexStringPrefix::WithVersion;
+        match self {
+            Self::Short(digest) => digest.store_into_str_bytes(room, prefix).is_ok(),
+            Self::Normal(digest) => digest.store_into_str_bytes(room, prefix).is_ok(),
+            Self::Long(digest) => digest.store_into_str_bytes(room, prefix).is_ok(),
+        }
+    }
+}
+
+/// A text with `T1` read, and the digest left unused: what is measured.
+pub fn read(variant: Variant, text: &[u8]) -> bool {
+    let prefix = Some(HexStringPrefix::WithVersion);
+    match variant {
+        Variant::Short => black_box(Short::from_str_bytes(text, prefix)).is_ok(),
+        Variant::Normal => black_box(Normal::from_str_bytes(text, prefix)).is_ok(),
+        Variant::Long => black_box(Long::from_str_bytes(text, prefix)).is_ok(),
+    }
 }
 
 /// Which prefixes a reader takes.

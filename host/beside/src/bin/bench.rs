@@ -10,7 +10,7 @@
 //! call on each side; for the C++ it is also taken from the heap. The destinations are not cleared between the calls.
 use beside::inputs::{Input, Kind};
 use beside::random::Random;
-use beside::{judge, oracle};
+use beside::{judge, oracle, timed};
 use saltcurtain::{Variant, raw};
 use std::cell::RefCell;
 use std::ffi::c_int;
@@ -107,13 +107,41 @@ fn digests(name: &str, variant: Variant, piece: usize, inputs: &[Vec<u8>]) {
     work(name, bytes, sides);
 }
 
-/// A text read and written again.
-fn rewrites(variant: Variant, input: &[u8]) {
-    let name = format!("rewrite-{}", variant.number());
-    let size = variant.text_len();
-    let mut text = [0u8; 136];
+/// A text written, a text read, and both.
+fn texts(variant: Variant, input: &[u8]) {
+    let mut text = [0; 136];
     assert_eq!(raw::digest(variant.number(), 0, input, &mut text), 0);
-    let text = &text[..size];
+    let text = &text[..variant.text_len()];
+    if timed::MISSING.is_none() {
+        writes(variant, text);
+        reads(variant, text);
+    }
+    rewrites(variant, text);
+}
+
+/// A text written. Both sides are lent the digest.
+fn writes(variant: Variant, text: &[u8]) {
+    let (port, rust) = (timed::read(variant.number(), text), oracle::Held::new(variant, text).expect("a good text"));
+    let (mut one, mut two) = ([0; 136], [0; 136]);
+    let sides: Vec<Side> =
+        vec![Box::new(|| timed::write(black_box(&port), &mut one)), Box::new(|| black_box(&rust).write_into(&mut two))];
+    work(&format!("write-{}", variant.number()), text.len(), sides);
+    assert!(one[..text.len()] == *text && two[..text.len()] == *text);
+}
+
+/// A text read. Both sides give the digest.
+fn reads(variant: Variant, text: &[u8]) {
+    let sides: Vec<Side> = vec![
+        Box::new(|| black_box(timed::read(variant.number(), black_box(text))).variant == variant.number()),
+        Box::new(|| oracle::read(variant, black_box(text))),
+    ];
+    work(&format!("read-{}", variant.number()), text.len(), sides);
+}
+
+/// A text read and written again.
+fn rewrites(variant: Variant, text: &[u8]) {
+    let name = format!("rewrite-{}", variant.number());
+    let size = text.len();
     let (mut one, mut two, mut three) = ([0u8; 136], [0u8; 136], [0u8; judge::SIZE]);
     let mut bare = [0; judge::SIZE];
     let mut sides: Vec<Side> = vec![
@@ -149,7 +177,7 @@ fn run() {
         digests(&format!("pieces-128-report-64K-by-{piece}"), Variant::Normal, piece, &one(Kind::Report, 1 << 16));
     }
     for variant in Variant::ALL {
-        rewrites(variant, &one(Kind::Report, 4096)[0]);
+        texts(variant, &one(Kind::Report, 4096)[0]);
     }
 }
 
@@ -203,6 +231,9 @@ fn summary() -> Result<(), String> {
     );
     if let Some(why) = judge::MISSING {
         println!("The C++ was SKIPPED: {why}");
+    }
+    if let Some(why) = timed::MISSING {
+        println!("Writing and reading by themselves were SKIPPED: {why}");
     }
     Ok(())
 }
