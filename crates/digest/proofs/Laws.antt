@@ -7,7 +7,7 @@ use native.Mathlib.Omega.{arith}
 use lib.ListN.{length, take, length-append}
 use borrow.Author.Tests.{eq-eqb, ne-eqb}
 use Rattle.params.specs.Variants.{known}
-use Rattle.hash.specs.Text.{writeOf, Written}
+use Rattle.text.specs.Text.{writeOf, Written}
 use Rattle.generate.specs.declared.State.{State}
 use Rattle.generate.specs.declared.StateAnswer.{StateAnswer}
 use Rattle.generate.specs.Feed.{feed, fresh}

@@ -4,7 +4,7 @@
 // is the one that some bytes lead to, and that the answer is the one that finalizing gives for it.
 ghost use mathlib.Core.Path.{_≡_};
 ghost use lib.ListN.{replicate};
-ghost use Rattle.hash.specs.Text.{Written};
+ghost use Rattle.text.specs.Text.{Written};
 ghost use Rattle.finalize.specs.Final.{finalized};
 ghost use Rattle.saltcurtain.specs.Entries.{given};
 ghost use Rattle.digest.specs.Reading.{Turned, Ended};
@@ -81,7 +81,7 @@ fn answer_for(s: State) -> Answer
         };
     }
     let digest = f.digest;
-    let number = hash::write_text(digest, &mut text);
+    let number = text::write_text(digest, &mut text);
     Answer {
         number: number,
         text: text,

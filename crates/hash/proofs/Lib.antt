@@ -1,9 +1,2 @@
-pub mod Tests
-pub mod Digits
-pub mod Writing
-pub mod Apart
-pub mod Reading
-pub mod RoundTrip
-pub mod Accepted
 pub mod Making
 pub mod Sameness

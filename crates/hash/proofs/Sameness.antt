@@ -17,7 +17,7 @@ use Rattle.params.specs.Answers.{done, unknownVariant}
 use Rattle.hash.specs.declared.Digest.{Digest}
 use Rattle.body.specs.Body.{bytesOf}
 use Rattle.hash.specs.Digest.{firstEqual, sameFields, sameOf, Made}
-use Rattle.hash.proofs.Tests.{and-both}
+use Rattle.params.proofs.Tests.{and-both}
 
 -- what the loop keeps: whether the first i bytes are equal
 pub record Compared (x y : List ℕ) (m i : ℕ) (equal : Bool) : Type 0 where

@@ -1,3 +1,1 @@
 pub mod Digest
-pub mod Text
-pub mod Reading

@@ -1,2 +1,3 @@
 pub mod Variants
 pub mod Every
+pub mod Tests

@@ -25,11 +25,11 @@ use Rattle.qratios.specs.Ratios.{reduced, float, ratiosOf, byteOf}
 use Rattle.body.specs.Body.{bytesOf, bodyOf}
 use Rattle.hash.specs.declared.Digest.{Digest}
 use Rattle.hash.specs.declared.SameAnswer.{SameAnswer}
-use Rattle.hash.specs.declared.SizeAnswer.{SizeAnswer}
-use Rattle.hash.specs.declared.ReadAnswer.{ReadAnswer}
+use Rattle.text.specs.declared.SizeAnswer.{SizeAnswer}
+use Rattle.parse.specs.declared.ReadAnswer.{ReadAnswer}
 use Rattle.hash.specs.Digest.{zeroDigest, sameOf}
-use Rattle.hash.specs.Text.{sizeOf, Wrote, writeOf, Written}
-use Rattle.hash.specs.Reading.{readOf}
+use Rattle.text.specs.Text.{sizeOf, Wrote, writeOf, Written}
+use Rattle.parse.specs.Reading.{readOf}
 use Rattle.generate.specs.declared.State.{State}
 use Rattle.generate.specs.declared.StateAnswer.{StateAnswer}
 use Rattle.generate.specs.declared.Processed.{Processed}

@@ -12,10 +12,10 @@ use borrow.Author.Tests.{eq-eqb, ne-eqb, lt-ltb, le-ltb, not-true, not-false}
 use Rattle.params.specs.Variants.{known}
 use Rattle.params.proofs.Variants.{by-variant}
 use Rattle.hash.specs.declared.Digest.{Digest}
-use Rattle.hash.specs.declared.SizeAnswer.{SizeAnswer}
-use Rattle.hash.specs.Text.{textOf, textSize, sizeOf, writeOf, Written}
-use Rattle.hash.specs.Reading.{isDigit}
-use Rattle.hash.proofs.Writing.{length-text}
+use Rattle.text.specs.declared.SizeAnswer.{SizeAnswer}
+use Rattle.text.specs.Text.{textOf, textSize, sizeOf, writeOf, Written}
+use Rattle.parse.specs.Reading.{isDigit}
+use Rattle.text.proofs.Writing.{length-text}
 use Rattle.generate.specs.declared.State.{State}
 use Rattle.generate.specs.declared.StateAnswer.{StateAnswer}
 use Rattle.generate.specs.Feed.{feed, fresh}

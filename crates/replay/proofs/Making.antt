@@ -11,8 +11,8 @@ use lib.ListN.{length, getD, set, take, drop, length-append, length-drop}
 use lib.Seq.{drop-cons, set-at, append-snoc, take-at}
 use borrow.Author.Tests.{eq-eqb, ne-eqb, not-true, not-false}
 use Rattle.params.specs.Variants.{known}
-use Rattle.hash.specs.Reading.{isDigit, valueOf}
-use Rattle.hash.proofs.Digits.{digit-least, value-low, value-high, value-small}
+use Rattle.parse.specs.Reading.{isDigit, valueOf}
+use Rattle.parse.proofs.Digits.{digit-least, value-low, value-high, value-small}
 use Rattle.generate.specs.declared.State.{State}
 use Rattle.generate.specs.declared.StateAnswer.{StateAnswer}
 use Rattle.generate.specs.Feed.{feed}

@@ -5,7 +5,7 @@ use mathlib.Core.List.{List, [], _∷_, _++_}
 use Prim.Native.Nat.{ℕ, zero, suc, _+_, _*_, _/_, _%_, _^_}
 use lib.Dec.{eqb}
 use lib.ListN.{length, getD}
-use Rattle.hash.specs.Reading.{isDigit, valueOf}
+use Rattle.parse.specs.Reading.{isDigit, valueOf}
 use Rattle.replay.specs.declared.Input.{Input}
 
 -- x after a draw

@@ -9,8 +9,8 @@ use lib.ListN.{length}
 use Rattle.params.specs.Variants.{known}
 use Rattle.params.specs.Answers.{done}
 use Rattle.hash.specs.declared.Digest.{Digest}
-use Rattle.hash.specs.Text.{textOf}
-use Rattle.hash.specs.Reading.{isDigit}
+use Rattle.text.specs.Text.{textOf}
+use Rattle.parse.specs.Reading.{isDigit}
 use Rattle.finalize.specs.declared.Finalized.{Finalized}
 use Rattle.finalize.specs.Final.{digestOf}
 use Rattle.replay.specs.declared.Number.{Number}

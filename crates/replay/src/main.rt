@@ -12,8 +12,8 @@ ghost use Prim.Native.Nat.{_+_, _-_, _%_, _≤_, _<_, min};
 ghost use lib.ListN.{length, drop};
 ghost use Rattle.generate.specs.Answer.{made, updated};
 ghost use Rattle.params.specs.Variants.{known};
-ghost use Rattle.hash.specs.Text.{textSize, textOf};
-ghost use Rattle.hash.specs.Reading.{isDigit};
+ghost use Rattle.text.specs.Text.{textSize, textOf};
+ghost use Rattle.parse.specs.Reading.{isDigit};
 ghost use Rattle.finalize.specs.Final.{finalized};
 ghost use Rattle.replay.specs.Words.{wordSize, afterWords, firstWord, sameText, all, isDecimal, decimalAfter, isNumeral, numberOf};
 ghost use Rattle.replay.specs.Input.{drawn, drawnTimes, hexOf, repeated, byteBy, bytesFrom};
@@ -451,7 +451,7 @@ fn is_written(line: &[u8], digest: Digest, size: usize) -> bool
     ensures { λ r. ⌜ r ≡ sameText (afterWords 6 (now (line .entry))) (textOf digest) ⌝ }
 {
     let mut text = [0u8; 136];
-    hash::write_text(digest, &mut text);
+    text::write_text(digest, &mut text);
     let answer = rest_after(line, 6);
     same_text(answer, &text[..size])
 }
@@ -460,7 +460,7 @@ fn is_written(line: &[u8], digest: Digest, size: usize) -> bool
 fn is_text(line: &[u8], digest: Digest) -> bool
     ensures { λ r. ⌜ r ≡ isText (now (line .entry)) digest ⌝ }
 {
-    let t = hash::text_size(digest.variant);
+    let t = text::text_size(digest.variant);
     if params::DONE < t.number {
         return false;
     }

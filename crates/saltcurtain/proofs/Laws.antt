@@ -20,10 +20,10 @@ use Rattle.qratios.specs.Ratios.{quotient, ordered, ratiosOf}
 use Rattle.qratios.proofs.Truncate.{Truncates, truncates}
 use Rattle.qratios.proofs.Answers.{first-fit, second-fit}
 use Rattle.hash.specs.declared.Digest.{Digest}
-use Rattle.hash.specs.declared.SizeAnswer.{SizeAnswer}
-use Rattle.hash.specs.declared.ReadAnswer.{ReadAnswer}
-use Rattle.hash.specs.Text.{textSize, sizeOf, Wrote, writeOf, Written}
-use Rattle.hash.specs.Reading.{readOf}
+use Rattle.text.specs.declared.SizeAnswer.{SizeAnswer}
+use Rattle.parse.specs.declared.ReadAnswer.{ReadAnswer}
+use Rattle.text.specs.Text.{textSize, sizeOf, Wrote, writeOf, Written}
+use Rattle.parse.specs.Reading.{readOf}
 use Rattle.generate.specs.declared.State.{State}
 use Rattle.generate.specs.declared.StateAnswer.{StateAnswer}
 use Rattle.generate.specs.Feed.{fresh, feed}

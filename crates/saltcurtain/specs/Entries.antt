@@ -12,8 +12,8 @@ use Rattle.length.specs.Code.{coded}
 use Rattle.qratios.specs.Single.{bits, whole}
 use Rattle.qratios.specs.Ratios.{quotient, ordered, ratiosOf}
 use Rattle.hash.specs.declared.Digest.{Digest}
-use Rattle.hash.specs.Text.{textSize, Wrote, writeOf}
-use Rattle.hash.specs.Reading.{readOf}
+use Rattle.text.specs.Text.{textSize, Wrote, writeOf}
+use Rattle.parse.specs.Reading.{readOf}
 use Rattle.finalize.specs.declared.Finalized.{Finalized}
 use Rattle.finalize.specs.Final.{digestOf}
 

@@ -4,7 +4,7 @@
 ghost use mathlib.Core.Path.{_≡_};
 ghost use Prim.Native.Nat.{_<_, min};
 ghost use Rattle.generate.specs.Answer.{updated};
-ghost use Rattle.hash.specs.Text.{Written};
+ghost use Rattle.text.specs.Text.{Written};
 ghost use Rattle.finalize.specs.Final.{finalized};
 ghost use Rattle.saltcurtain.specs.Entries.{judged, given, digested, rewritten, ratioed, classed};
 use generate::State;
@@ -17,7 +17,7 @@ fn judge(variant: u32, options: u32, room: usize) -> u32
     if c.number != params::DONE {
         return c.number;
     }
-    let t = hash::text_size(variant);
+    let t = text::text_size(variant);
     if t.number != params::DONE {
         return t.number;
     }
@@ -36,7 +36,7 @@ fn finish(s: State, options: u32, destination: &mut [u8]) -> u32
         return f.number;
     }
     let digest = f.digest;
-    hash::write_text(digest, destination)
+    text::write_text(digest, destination)
 }
 
 // The text of the input's digest.
@@ -122,19 +122,19 @@ pub extern "C" fn saltcurtain_digest_pieces(
 pub extern "C" fn saltcurtain_rewrite(variant: u32, text: &[u8], destination: &mut [u8]) -> u32
     ensures { λ r. ⌜ Written r (now (destination .exit)) (rewritten variant (now (text .entry)) (now (destination .entry))) ⌝ }
 {
-    let text_size = hash::text_size(variant);
+    let text_size = text::text_size(variant);
     if text_size.number != params::DONE {
         return text_size.number;
     }
     if destination.len() < text_size.size {
         return params::SHORT_DESTINATION;
     }
-    let read = hash::read_text(variant, text);
+    let read = parse::read_text(variant, text);
     if read.number != params::DONE {
         return read.number;
     }
     let digest = read.digest;
-    hash::write_text(digest, destination)
+    text::write_text(digest, destination)
 }
 
 // The bits of both quotients of the floating path, then their whole parts.

@@ -1,8 +1,8 @@
 // What the benchmark times by itself: the writer and the reader of a digest's text, which no C entry point has alone.
 // They are for host/bench.sh and no part of the C interface.
 ghost use mathlib.Core.Path.{_≡_};
-ghost use Rattle.hash.specs.Text.{Written, writeOf};
-ghost use Rattle.hash.specs.Reading.{readOf};
+ghost use Rattle.text.specs.Text.{Written, writeOf};
+ghost use Rattle.parse.specs.Reading.{readOf};
 use hash::Digest;
 
 // Writes the text of the digest that has these fields.
@@ -17,7 +17,7 @@ pub extern "C" fn saltcurtain_timed_write(
 ) -> u32
     ensures { λ r. ⌜ Written r (now (destination .exit)) (writeOf (record { body = now (body .entry); variant = variant; checksum = checksum; «length_code» = «length_code»; ratios = ratios }) (now (destination .entry))) ⌝ }
 {
-    hash::write_text(
+    text::write_text(
         Digest {
             body: *body,
             variant,
@@ -34,6 +34,6 @@ pub extern "C" fn saltcurtain_timed_write(
 pub extern "C" fn saltcurtain_timed_read(variant: u32, text: &[u8]) -> Digest
     ensures { λ r. ⌜ r ≡ readOf variant (now (text .entry)) .digest ⌝ }
 {
-    let read = hash::read_text(variant, text);
+    let read = parse::read_text(variant, text);
     read.digest
 }

@@ -2,7 +2,7 @@
 -- Assumes nothing.
 use Prim.Native.Nat.{_-_}
 use lib.ListN.{length}
-use Rattle.hash.specs.Reading.{isDigit}
+use Rattle.parse.specs.Reading.{isDigit}
 use Rattle.replay.proofs.Words.{Tested, tested-none, tested-more, tested-all}
 use borrow.Author.Needs.{needs}
 use Rattle.replay.proofs.all_digits.Statement.{statement}

@@ -1,7 +1,7 @@
 -- `replay::is_digit` meets its contract: it is the definition.
 -- Assumes nothing.
 use mathlib.Core.Path.{refl}
-use Rattle.hash.specs.Reading.{isDigit}
+use Rattle.parse.specs.Reading.{isDigit}
 use borrow.Author.Needs.{needs}
 use Rattle.replay.proofs.is_digit.Statement.{statement}
 use Rattle.replay.proofs.is_digit.Tie as tie

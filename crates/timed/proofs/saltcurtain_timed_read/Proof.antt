@@ -1,7 +1,7 @@
 -- `timed::saltcurtain_timed_read` meets its contract: it gives the digest of the reader's answer.
 -- Assumes nothing.
 use mathlib.Core.Path.{ap}
-use Rattle.hash.specs.declared.ReadAnswer.{ReadAnswer}
+use Rattle.parse.specs.declared.ReadAnswer.{ReadAnswer}
 use borrow.Author.Needs.{needs}
 use Rattle.timed.proofs.saltcurtain_timed_read.Statement.{statement}
 use Rattle.timed.proofs.saltcurtain_timed_read.Tie as tie
