@@ -123,15 +123,16 @@ ratios-byte q1 q2 q3 integer = one (byteOf integer q1 q2 q3)
 bytes-of : (n : ℕ) → Unique ℕ (λ r. r ≡ bytesOf n)
 bytes-of n = one (bytesOf n)
 
-zero-digest : Unique Digest (λ r. r ≡ zeroDigest)
-zero-digest = one zeroDigest
-
 body-of : (q : Quartiles) (used : List ℕ) → Unique (List ℕ) (λ r. r ≡ bodyOf q used)
 body-of q used = one (bodyOf q used)
+
+zero-digest : Unique Digest (λ r. r ≡ zeroDigest)
+zero-digest = one zeroDigest
 
 same : (a b : Digest) → Unique SameAnswer (λ r. r ≡ sameOf a b)
 same a b = one (sameOf a b)
 
+-- ---- text and parse; the benchmark's writer and reader are these two, of a record of its own and of an answer's digest
 text-size : (v : ℕ) → Unique SizeAnswer (λ r. r ≡ sizeOf v)
 text-size v = one (sizeOf v)
 
@@ -140,6 +141,9 @@ write-text d lent = one-write (writeOf d lent)
 
 read-text : (v : ℕ) (text : List ℕ) → Unique ReadAnswer (λ r. r ≡ readOf v text)
 read-text v text = one (readOf v text)
+
+read-digest : (v : ℕ) (text : List ℕ) → Unique Digest (λ r. r ≡ readOf v text .digest)
+read-digest v text = one (readOf v text .digest)
 
 -- ---- generate
 new-state : (v : ℕ) → Unique StateAnswer (λ r. r ≡ made v)
