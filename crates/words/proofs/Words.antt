@@ -1,22 +1,22 @@
 -- The laws that the functions on words, texts and numbers cite: one for each loop's start, turn and end, and one for each answer.
 -- Assumes nothing.
 use mathlib.Core.Path.{_≡_, refl, sym, _∙_, ap}
-use mathlib.Core.Bool.{Bool, true, false, cond, not, _&&_, and-assoc, and-true, and-false, true≢false}
+use mathlib.Core.Bool.{Bool, true, false, not, _&&_, and-assoc, and-true, and-false, true≢false}
 use mathlib.Core.List.{List, [], _∷_}
 use Prim.Native.Nat.{ℕ, zero, suc, _+_, _-_, _*_, _^_, _≤_, _<_}
-use native.Mathlib.Nat.{pow-suc, pow-le-pow-right, le-of-suc-le-suc, not-suc-le-zero}
+use native.Mathlib.Nat.{pow-suc, pow-le-pow-right}
 use native.Mathlib.Numerals.{add-one}
 use native.Mathlib.Omega.{arith}
 use lib.Dec.{T, eqb, ltb, leb, leb→le}
 use lib.ListN.{length, getD, take, drop, length-drop, drop-of-length-le}
 use lib.Seq.{length-take-le, take-all, drop-cons, drop-drop}
-use borrow.Author.Tests.{eq-eqb, ne-eqb, lt-ltb, le-ltb, leb-true, ltb-false, not-true, not-false}
+use borrow.Author.Tests.{eq-eqb, ne-eqb, lt-ltb, le-ltb, ltb-false, not-false}
 use lib.Ieee.Bits.{is-true}
 use Rattle.params.specs.Words.{every}
 use Rattle.params.proofs.Every.{and-left, and-right, every-at}
 use Rattle.words.specs.declared.Number.{Number}
 use Rattle.words.specs.Words.{wordSize, afterWords, firstWord, sameText, isDecimal}
-use Rattle.words.specs.Words.{allDecimal, decimalAfter, isNumeral, noNumber, numberOf}
+use Rattle.words.specs.Words.{allDecimal, decimalAfter, isNumeral, numberOf}
 
 -- ---- words
 

@@ -1,7 +1,7 @@
 -- Words, texts and decimal numbers in a line of the stored list (host/README.md, The stored list). A space is 32, the digits 0 to 9
 -- are 48 to 57.
 -- Assumes nothing.
-use mathlib.Core.Bool.{Bool, true, false, cond, not, _&&_, _||_}
+use mathlib.Core.Bool.{Bool, true, false, cond, not, _&&_}
 use mathlib.Core.List.{List, [], _∷_}
 use Prim.Native.Nat.{ℕ, zero, suc, _+_, _-_, _*_}
 use lib.Dec.{leb, ltb, eqb}

@@ -1,6 +1,5 @@
 -- `inputs::draw` meets its contract.
 -- Assumes nothing.
-use mathlib.Core.Path.{refl}
 use Rattle.inputs.specs.Input.{drawn}
 use borrow.Author.Needs.{needs}
 use Rattle.inputs.proofs.draw.Statement.{statement}

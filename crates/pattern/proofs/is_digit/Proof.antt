@@ -2,7 +2,6 @@
 -- Assumes nothing.
 use mathlib.Core.Path.{refl}
 use Rattle.hash.specs.Reading.{isDigit}
-use borrow.Author.Needs.{needs}
 use Rattle.pattern.proofs.is_digit.Statement.{statement}
 use Rattle.pattern.proofs.is_digit.Tie as tie
 

@@ -2,7 +2,6 @@
 -- Assumes nothing.
 use mathlib.Core.Path.{refl}
 use Rattle.words.specs.Words.{isDecimal}
-use borrow.Author.Needs.{needs}
 use Rattle.words.proofs.is_decimal.Statement.{statement}
 use Rattle.words.proofs.is_decimal.Tie as tie
 
