@@ -1,0 +1,13 @@
+-- `pattern::is_digit` meets its contract: it is the definition.
+-- Assumes nothing.
+use mathlib.Core.Path.{refl}
+use Rattle.parse.specs.Reading.{isDigit}
+use Rattle.pattern.proofs.is_digit.Statement.{statement}
+use Rattle.pattern.proofs.is_digit.Tie as tie
+
+returns : tie.Need-returns
+unfolding isDigit
+returns c = refl
+
+pub is-digit-spec : {M : Type 1} → statement M
+is-digit-spec = tie.close (tie.spec returns)

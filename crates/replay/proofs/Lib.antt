@@ -1,3 +1,0 @@
-mod Words
-mod Making
-mod Line
