@@ -19,7 +19,7 @@ pub struct ReadAnswer {
 }
 
 // Whether a character is a digit: 0 to 9 or A to F.
-fn is_digit(c: u8) -> bool
+pub fn is_digit(c: u8) -> bool
     ensures { λ r. ⌜ r ≡ isDigit c ⌝ }
 {
     ((48 <= c) & (c <= 57)) | ((65 <= c) & (c <= 70))
@@ -34,7 +34,7 @@ fn value_of(c: u8) -> u8
 }
 
 // Whether there are digits alone.
-fn all_digits(t: &[u8]) -> bool
+pub fn all_digits(t: &[u8]) -> bool
     ensures { λ r. ⌜ r ≡ allDigits (now (t .entry)) ⌝ }
 {
     let mut good = true;

@@ -2,28 +2,7 @@
 // stands at a place where they come again and again.
 ghost use mathlib.Core.Path.{_≡_};
 ghost use Prim.Native.Nat.{_%_, _<_};
-ghost use Rattle.parse.specs.Reading.{isDigit, allDigits};
 ghost use Rattle.pattern.specs.Pattern.{isPattern, hexOf, repeated};
-
-// Whether a character is a hexadecimal digit.
-fn is_digit(c: u8) -> bool
-    ensures { λ r. ⌜ r ≡ isDigit c ⌝ }
-{
-    ((48 <= c) & (c <= 57)) | ((65 <= c) & (c <= 70))
-}
-
-// Whether there are hexadecimal digits alone.
-fn all_digits(s: &[u8]) -> bool
-    ensures { λ r. ⌜ r ≡ allDigits (now (s .entry)) ⌝ }
-{
-    let mut good = true;
-    let mut i = 0;
-    while i < s.len() {
-        good = good & is_digit(s[i]);
-        i += 1;
-    }
-    good
-}
 
 // Whether a text is a pattern of one to 64 bytes.
 pub fn is_pattern(s: &[u8]) -> bool
@@ -36,7 +15,7 @@ pub fn is_pattern(s: &[u8]) -> bool
         return false;
     }
     if s.len() % 2 < 1 {
-        return all_digits(s);
+        return parse::all_digits(s);
     }
     false
 }
@@ -45,7 +24,7 @@ pub fn is_pattern(s: &[u8]) -> bool
 fn hex_value(c: u8) -> u8
     ensures { λ r. ⌜ (r ≡ hexOf c) × (r < 16) ⌝ }
 {
-    if !is_digit(c) {
+    if !parse::is_digit(c) {
         return 0;
     }
     if c <= 57 {

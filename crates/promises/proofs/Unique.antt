@@ -29,7 +29,7 @@ use Rattle.text.specs.declared.SizeAnswer.{SizeAnswer}
 use Rattle.parse.specs.declared.ReadAnswer.{ReadAnswer}
 use Rattle.hash.specs.Digest.{zeroDigest, sameOf}
 use Rattle.text.specs.Text.{sizeOf, Wrote, writeOf, Written}
-use Rattle.parse.specs.Reading.{readOf}
+use Rattle.parse.specs.Reading.{isDigit, allDigits, readOf}
 use Rattle.generate.specs.declared.State.{State}
 use Rattle.generate.specs.declared.StateAnswer.{StateAnswer}
 use Rattle.generate.specs.declared.Processed.{Processed}
@@ -138,6 +138,12 @@ text-size v = one (sizeOf v)
 
 write-text : (d : Digest) (lent : List ℕ) → UniqueWrite (writeOf d lent)
 write-text d lent = one-write (writeOf d lent)
+
+is-digit : (c : ℕ) → Unique Bool (λ r. r ≡ isDigit c)
+is-digit c = one (isDigit c)
+
+all-digits : (t : List ℕ) → Unique Bool (λ r. r ≡ allDigits t)
+all-digits t = one (allDigits t)
 
 read-text : (v : ℕ) (text : List ℕ) → Unique ReadAnswer (λ r. r ≡ readOf v text)
 read-text v text = one (readOf v text)
