@@ -19,7 +19,18 @@ unfolding feeds joined feed
 feeds-joined [] s = refl
 feeds-joined (xs ∷ xss) s = feeds-joined xss (feed xs s) ∙ sym (cut xs (joined xss) s)
 
--- the two tests of an update, decided
+-- an update with no byte, its two tests decided
+none-by : (s : State) (k m : Bool) → known (s .variant) ≡ k → marked (s .length) (s .«tail_len») ≡ m → s ≡ updated s [] .state
+unfolding updated feed
+none-by s true true p q = rw (p, q)
+none-by s true false p q = rw (p, q)
+none-by s false m p q = rw p
+
+-- it leaves the state
+pub updated-none : (s : State) → s ≡ updated s [] .state
+updated-none s = none-by s (known (s .variant)) (marked (s .length) (s .«tail_len»)) refl refl
+
+-- two updates, their tests decided
 two-by : (s : State) (xs ys : List ℕ) (k m : Bool) → known (s .variant) ≡ k → marked (s .length) (s .«tail_len») ≡ m
     → updated (updated s xs .state) ys ≡ updated s (xs ++ ys)
 unfolding updated

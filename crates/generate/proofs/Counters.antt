@@ -11,8 +11,9 @@ use lib.Seq.{getD-set-same, getD-set-other}
 use Rattle.params.specs.Words.{sum}
 use Rattle.pearson.specs.Mapping.{bucket}
 use Rattle.pearson.proofs.Values.{bucket-lt, bucket-short}
+use Rattle.leap.specs.Count.{bump, counted}
 use Rattle.generate.specs.declared.State.{State}
-use Rattle.generate.specs.Feed.{fresh, bump, counted, filled, slid, step, feed}
+use Rattle.generate.specs.Feed.{fresh, filled, slid, step, feed}
 use Rattle.generate.proofs.Step.{by-step, feed-keeps}
 
 -- a store changes the sum by what it changes at its place

@@ -5,6 +5,4 @@ pub mod Counters
 pub mod Reached
 pub mod Chunks
 mod Loops
-mod Places
-mod Turns
 mod Parts

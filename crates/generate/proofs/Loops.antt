@@ -1,21 +1,19 @@
--- The laws of the two loops: filling the tail, and counting the later bytes. What is left of the bytes leads to the same end.
+-- The laws of filling the tail and of counting the later bytes, by the plain loop and in two parts. What is left of the bytes leads
+-- to the same end.
 -- Assumes nothing.
-use mathlib.Core.Path.{_≡_, refl}
-use mathlib.Core.List.{List, [], _∷_}
-use Prim.Native.Nat.{ℕ, suc, _+_, _%_, _^_, _≤_, _<_}
+use mathlib.Core.Path.{_≡_, refl, _∙_, ap, sym}
+use mathlib.Core.List.{List, [], _∷_, _++_}
+use Prim.Native.Nat.{ℕ, suc, _+_, _-_, _*_, _/_, _≤_, _<_}
 use native.Mathlib.Nat.{add-zero}
-use native.Mathlib.Numerals.{add-one}
 use native.Mathlib.Omega.{arith}
-use lib.ListN.{length, getD, set, drop, drop-of-length-le}
-use lib.Seq.{sets, drop-cons}
+use lib.ListN.{length, getD, set, take, drop, take-append-drop, drop-of-length-le, length-take, length-drop}
+use lib.Seq.{sets, take-all}
 use Rattle.pearson.specs.Mapping.{bucket}
-use Rattle.generate.specs.declared.Window.{Window}
-use Rattle.generate.specs.Feed.{bump, checked, counted}
-use Rattle.generate.specs.Window.{moved, moves, hit, hits, Ran}
-
--- what is left after i bytes: the byte at i, and what is left after one more
-pub next : (xs : List ℕ) (i : ℕ) → i < length xs → drop i xs ≡ getD xs i 0 ∷ drop (i + 1) xs
-next xs i h = rw (add-one i) (drop-cons xs i 0 h)
+use Rattle.leap.specs.declared.Window.{Window}
+use Rattle.leap.specs.Count.{bump, checked, counted}
+use Rattle.leap.specs.Window.{moved, moves, hit, hits, Ran, fours}
+use Rattle.leap.proofs.Turns.{next}
+use Rattle.generate.specs.Parts.{Fours}
 
 -- a tail t of n bytes has become u by i of the bytes xs
 pub record Fills (t : List ℕ) (n : ℕ) (xs : List ℕ) (i : ℕ) (u : List ℕ) : Type 0 where
@@ -37,10 +35,9 @@ module _ {t : List ℕ} {n : ℕ} {xs : List ℕ} {i : ℕ} {u : List ℕ} (p : 
   pub fills-all : length xs ≤ i → u ≡ sets t n xs
   fills-all h = rw (drop-of-length-le xs {i = i} h) at (p .same)
 
--- the rolled-over sum stored at a counter is one more at it
-pub bumped : (cs : List ℕ) (i x : ℕ) → x ≡ (getD cs i 0 + 1) % 2 ^ 32 → set cs i x ≡ bump cs i
-unfolding bump
-bumped cs i x e = rw e
+-- one more at a value is one more at what the value is
+pub bump-at : (cs ds : List ℕ) (i j : ℕ) → i ≡ j → ds ≡ bump cs i → ds ≡ bump cs j
+bump-at cs ds i j e p = p ∙ ap (bump cs) e
 
 -- six counters bumped in turn, each at its mapping's value, are the counters of a byte
 pub count-six : (v b4 : ℕ) (w : Window) (c0 : List ℕ) {c1 c2 c3 c4 c5 c6 : List ℕ}
@@ -87,6 +84,39 @@ module _ {v : ℕ} {xs cs₀ : List ℕ} {w₀ : Window} {i : ℕ} {cs : List �
         window = rw (drop-of-length-le xs {i = i} h) at (p .window);
         counters = rw (drop-of-length-le xs {i = i} h) at (p .counters);
       }
+
+-- a part of some fours has that length
+pub fours-length : (xs : List ℕ) (m : ℕ) → Fours (length xs) m → m ≡ length (take m xs)
+fours-length xs m f = omega (arith, length-take m xs, f .most)
+
+-- and its whole fours are the part itself
+part-fours : (xs : List ℕ) (m : ℕ) → Fours (length xs) m → fours (take m xs) ≡ take m xs
+unfolding fours
+part-fours xs m f = take-all (length (take m xs) / 4 * 4) (take m xs) (omega (arith, length-take m xs, f .most, f .whole))
+
+-- the window and the counters after a list that is cut in two
+moves-cut : (v : ℕ) (xs ys : List ℕ) (w : Window) → moves v (xs ++ ys) w ≡ moves v ys (moves v xs w)
+unfolding moves
+moves-cut v [] ys w = refl
+moves-cut v (x ∷ xs) ys w = moves-cut v xs ys (moved v w x)
+
+hits-cut : (v : ℕ) (xs ys : List ℕ) (w : Window) (cs : List ℕ) → hits v (xs ++ ys) w cs ≡ hits v ys (moves v xs w) (hits v xs w cs)
+unfolding moves hits
+hits-cut v [] ys w cs = refl
+hits-cut v (x ∷ xs) ys w cs = hits-cut v xs ys (moved v w x) (hit v w cs x)
+
+-- bytes that are run in two parts are run, where the first part is some fours
+pub ran-cut : (v m : ℕ) (xs cs ds es : List ℕ) (w w1 w2 : Window) → Fours (length xs) m → Ran v (fours (take m xs)) cs w ds w1
+    → Ran v (take (length xs - m) (drop m xs)) ds w1 es w2 → Ran v xs cs w es w2
+ran-cut v m xs cs ds es w w1 w2 f o q =
+    let p : Ran v (take m xs) cs w ds w1 = rw (part-fours xs m f) at o in
+    let all : take (length xs - m) (drop m xs) ≡ drop m xs = take-all (length xs - m) (drop m xs) (omega (arith, length-drop m xs)) in
+    let window = rw (all, p .window) at (q .window) in
+    let counters = rw (all, p .window, p .counters) at (q .counters) in
+    record {
+      window = rw (take-append-drop m xs) at (window ∙ sym (moves-cut v (take m xs) (drop m xs) w));
+      counters = rw (take-append-drop m xs) at (counters ∙ sym (hits-cut v (take m xs) (drop m xs) w cs));
+    }
 
 -- a tail of four bytes is its four bytes
 pub four : (t : List ℕ) → length t ≡ 4 → getD t 0 0 ∷ getD t 1 0 ∷ getD t 2 0 ∷ getD t 3 0 ∷ [] ≡ t

@@ -9,12 +9,13 @@ use native.Mathlib.Omega.{arith}
 use native.Mathlib.Decide.{decLt}
 use lib.ListN.{length, take, drop, length-take, length-drop, drop-of-length-le}
 use lib.Seq.{sets, take-nil}
+use Rattle.leap.specs.declared.Window.{Window}
+use Rattle.leap.specs.Window.{moved, moves, hit, hits, Ran}
 use Rattle.generate.specs.declared.State.{State}
-use Rattle.generate.specs.declared.Window.{Window}
 use Rattle.generate.specs.declared.Cuts.{Cuts}
 use Rattle.generate.specs.Feed.{filled, slid, stop, feed}
 use Rattle.generate.specs.Answer.{marked}
-use Rattle.generate.specs.Window.{moved, moves, hit, hits, Ran, Opened, CutsOf}
+use Rattle.generate.specs.Parts.{CutsOf, Opened}
 use Rattle.generate.proofs.Step.{step-filled, step-slid, cut-at, past-the-stop}
 use Rattle.generate.proofs.Marks.{unmarked-fine}
 

@@ -2,10 +2,10 @@
 -- Assumes nothing.
 use mathlib.Core.Bool.{cond}
 use mathlib.Core.List.{List, [], _∷_}
-use Prim.Native.Nat.{ℕ, _+_, _%_, _^_}
+use Prim.Native.Nat.{ℕ, _+_}
 use lib.Dec.{ltb}
 use lib.ListN.{getD, set, replicate}
-use Rattle.pearson.specs.Mapping.{bucket}
+use Rattle.leap.specs.Count.{checked, counted}
 use Rattle.generate.specs.declared.State.{State}
 
 -- the fresh state of a variant: all but the variant is 0
@@ -23,29 +23,6 @@ fresh v =
 -- where the length field stops: 2^32, less the four bytes of the tail
 abbrev pub stop : ℕ
 stop = 4_294_967_292
-
--- the checksum c after a byte b4, with b3 before it: the variant's own mapping of (0, b4, b3, c)
-unfoldable pub checked : ℕ → ℕ → ℕ → ℕ → ℕ
-checked v c b4 b3 = bucket v 0 b4 b3 c
-
--- one more at the counter i, which rolls over from 4,294,967,295 to 0
-unfoldable pub bump : List ℕ → ℕ → List ℕ
-bump cs i = set cs i ((getD cs i 0 + 1) % 2 ^ 32)
-
--- one more for each of the six mappings of a byte b4, with b3, b2, b1, b0 before it, b3 nearest
-unfoldable pub counted : ℕ → List ℕ → ℕ → ℕ → ℕ → ℕ → ℕ → List ℕ
-counted v cs b4 b3 b2 b1 b0 =
-    bump
-    (bump
-    (bump
-    (bump
-    (bump
-    (bump cs (bucket v 2 b4 b3 b2))
-    (bucket v 3 b4 b3 b1))
-    (bucket v 5 b4 b2 b1))
-    (bucket v 7 b4 b2 b0))
-    (bucket v 11 b4 b3 b0))
-    (bucket v 13 b4 b1 b0)
 
 -- one of the first four bytes fills the tail
 unfoldable pub filled : State → ℕ → State

@@ -1,5 +1,4 @@
 pub mod Feed
 pub mod Answer
 pub mod Chunks
-pub mod Window
-pub mod Places
+pub mod Parts

@@ -30,6 +30,9 @@ use Rattle.parse.specs.declared.ReadAnswer.{ReadAnswer}
 use Rattle.hash.specs.Digest.{zeroDigest, sameOf}
 use Rattle.text.specs.Text.{sizeOf, Wrote, writeOf, Written}
 use Rattle.parse.specs.Reading.{isDigit, allDigits, readOf}
+use Rattle.leap.specs.declared.Window.{Window}
+use Rattle.leap.specs.Count.{bump}
+use Rattle.leap.specs.Window.{Ran, fours}
 use Rattle.generate.specs.declared.State.{State}
 use Rattle.generate.specs.declared.StateAnswer.{StateAnswer}
 use Rattle.generate.specs.declared.Processed.{Processed}
@@ -150,6 +153,15 @@ read-text v text = one (readOf v text)
 
 read-digest : (v : ℕ) (text : List ℕ) → Unique Digest (λ r. r ≡ readOf v text .digest)
 read-digest v text = one (readOf v text .digest)
+
+-- ---- leap
+increment : (counters : List ℕ) (i : ℕ) → Unique (List ℕ) (λ r. r ≡ bump counters i)
+increment counters i = one (bump counters i)
+
+-- one window, and one content of the lent counters
+over : (v : ℕ) (bytes counters : List ℕ) (w a b : Window) (k l : List ℕ) → Ran v (fours bytes) counters w k a
+    → Ran v (fours bytes) counters w l b → (a ≡ b) × (k ≡ l)
+over v bytes counters w a b k l p q = (p .window ∙ sym (q .window), p .counters ∙ sym (q .counters))
 
 -- ---- generate
 new-state : (v : ℕ) → Unique StateAnswer (λ r. r ≡ made v)

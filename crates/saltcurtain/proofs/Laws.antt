@@ -28,7 +28,7 @@ use Rattle.generate.specs.declared.State.{State}
 use Rattle.generate.specs.declared.StateAnswer.{StateAnswer}
 use Rattle.generate.specs.Feed.{fresh, feed}
 use Rattle.generate.specs.Answer.{marked, made, updated}
-use Rattle.generate.proofs.Chunks.{two-updates}
+use Rattle.generate.proofs.Chunks.{updated-none, two-updates}
 use Rattle.options.specs.declared.Chosen.{Chosen}
 use Rattle.options.specs.Options.{chosen}
 use Rattle.finalize.specs.declared.Finalized.{Finalized}
@@ -154,15 +154,9 @@ pub record Fed (s₀ : State) (xs : List ℕ) (i : ℕ) (s : State) : Type 0 whe
   pub within : i ≤ length xs
   pub is : s ≡ updated s₀ (take i xs) .state
 
--- an update with no byte leaves the state
-none-by : (s : State) (k m : Bool) → known (s .variant) ≡ k → marked (s .length) (s .«tail_len») ≡ m → s ≡ updated s [] .state
-unfolding updated feed
-none-by s true true p q = rw (p, q)
-none-by s true false p q = rw (p, q)
-none-by s false m p q = rw p
-
+-- before the first piece the state is as it was
 pub fed-none : (s : State) (xs : List ℕ) → Fed s xs 0 s
-fed-none s xs = record { within = omega arith; is = none-by s (known (s .variant)) (marked (s .length) (s .«tail_len»)) refl refl }
+fed-none s xs = record { within = omega arith; is = updated-none s }
 
 -- one piece more
 pub fed-more : (s₀ s : State) (xs : List ℕ) (i m p : ℕ) (u : StateAnswer) → Fed s₀ xs i s → i < length xs → m ≡ min p (length xs - i)

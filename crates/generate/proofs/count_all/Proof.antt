@@ -1,6 +1,6 @@
 -- `generate::count_all` meets its contract: what both parts of the bytes do is what all of them do.
 -- Assumes nothing.
-use Rattle.generate.proofs.Turns.{fours-length, fours-whole, ran-cut}
+use Rattle.generate.proofs.Loops.{fours-length, ran-cut}
 use borrow.Author.Needs.{needs}
 use Rattle.generate.proofs.count_all.Statement.{statement}
 use Rattle.generate.proofs.count_all.Tie as tie
@@ -8,11 +8,11 @@ use Rattle.generate.proofs.count_all.Tie as tie
 fours-requires : tie.Need-fours-requires
 fours-requires c κs = search needs
 
-slice-aggregate-leap : tie.Need-slice-aggregate-leap
-slice-aggregate-leap c = search fours-length
+slice-aggregate-over : tie.Need-slice-aggregate-over
+slice-aggregate-over c = search fours-length
 
-leap-requires : tie.Need-leap-requires
-leap-requires c κs = search (fours-whole, needs)
+over-requires : tie.Need-over-requires
+over-requires c κs = search needs
 
 subst-table-requires : tie.Need-subst-table-requires
 subst-table-requires c κs = search needs
@@ -40,8 +40,8 @@ count-all-spec =
     tie.close
     (tie.spec
     fours-requires
-    slice-aggregate-leap
-    leap-requires
+    slice-aggregate-over
+    over-requires
     subst-table-requires
     last-table-requires
     sub-run

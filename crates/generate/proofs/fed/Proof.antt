@@ -1,9 +1,5 @@
 -- `generate::fed` meets its contract: the three parts of the bytes lead where all of them lead.
 -- Assumes nothing.
-use mathlib.Core.Path.{_≡_}
-use lib.ListN.{length, getD}
-use mir.Syntax.{w32}
-use mir.Val.{Fits}
 use Rattle.generate.proofs.Parts.{first-length, first-fits, fed-parts}
 use borrow.Author.Needs.{needs}
 use Rattle.generate.proofs.fed.Statement.{statement}
@@ -31,11 +27,7 @@ part-count-all-end : tie.Need-part-count-all-end
 part-count-all-end c = search needs
 
 count-all-requires : tie.Need-count-all-requires
-count-all-requires c κs =
-    let filled = c .before .before .before in
-    let two = filled .before .before .before in
-    let start = two .before .before .before in
-    record { each = λ i. let f : Fits w32 (getD (start .args .s .counters) i 0) = search needs in f .fits }
+count-all-requires c κs = search needs
 
 returns : tie.Need-returns
 returns c = search fed-parts

@@ -1,5 +1,6 @@
 -- `generate::increment_at` meets its contract.
 -- Assumes nothing.
+use Rattle.generate.proofs.Loops.{bump-at}
 use borrow.Author.Needs.{needs}
 use Rattle.generate.proofs.increment_at.Statement.{statement}
 use Rattle.generate.proofs.increment_at.Tie as tie
@@ -11,7 +12,7 @@ increment-requires : tie.Need-increment-requires
 increment-requires c κs = search needs
 
 returns : tie.Need-returns
-returns c = cc
+returns c = search bump-at
 
 pub increment-at-spec : {M : Type 1} → statement M
 increment-at-spec = tie.close (tie.spec b-mapping-requires increment-requires returns)

@@ -1,9 +1,9 @@
--- `generate::increment_by` meets its contract: the counter is read, and the sum is stored.
+-- `leap::increment_by` meets its contract: the counter is read, and the sum is stored.
 -- Assumes nothing.
-use Rattle.generate.specs.Places.{bumpBy}
+use Rattle.leap.proofs.Places.{bumped-by}
 use borrow.Author.Needs.{needs}
-use Rattle.generate.proofs.increment_by.Statement.{statement}
-use Rattle.generate.proofs.increment_by.Tie as tie
+use Rattle.leap.proofs.increment_by.Statement.{statement}
+use Rattle.leap.proofs.increment_by.Tie as tie
 
 mul-old : tie.Need-mul-old
 mul-old c = search needs
@@ -21,8 +21,7 @@ element-write-counters : tie.Need-element-write-counters
 element-write-counters c = search needs
 
 returns : tie.Need-returns
-unfolding bumpBy
-returns c = cc
+returns c = search bumped-by
 
 pub increment-by-spec : {M : Type 1} → statement M
 increment-by-spec =

@@ -1,11 +1,11 @@
--- `generate::scan` meets its contract: after i bytes, those that are left lead to the same end.
+-- `leap::scan` meets its contract: after i bytes, those that are left lead to the same end.
 -- Assumes nothing.
 use Prim.Native.Nat.{_-_}
 use lib.ListN.{length}
-use Rattle.generate.proofs.Turns.{Scans, scans-none, scans-more, scans-all}
+use Rattle.leap.proofs.Turns.{Scans, scans-none, scans-more, scans-all}
 use borrow.Author.Needs.{needs}
-use Rattle.generate.proofs.scan.Statement.{statement}
-use Rattle.generate.proofs.scan.Tie as tie
+use Rattle.leap.proofs.scan.Statement.{statement}
+use Rattle.leap.proofs.scan.Tie as tie
 
 abbrev Inv-loop : tie.InvT-loop
 Inv-loop p t l places₀ variant bytes next₀ i₀ places next i = Scans variant bytes places₀ next₀ i places next

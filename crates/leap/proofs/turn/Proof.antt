@@ -1,9 +1,9 @@
--- `generate::turn` meets its contract: six places in turn, and the checksum.
+-- `leap::turn` meets its contract: six places in turn, and the checksum.
 -- Assumes nothing.
-use Rattle.generate.proofs.Turns.{scanned-one}
+use Rattle.leap.proofs.Turns.{scanned-one}
 use borrow.Author.Needs.{needs}
-use Rattle.generate.proofs.turn.Statement.{statement}
-use Rattle.generate.proofs.turn.Tie as tie
+use Rattle.leap.proofs.turn.Statement.{statement}
+use Rattle.leap.proofs.turn.Tie as tie
 
 first-steps-requires : tie.Need-first-steps-requires
 first-steps-requires c κs = search needs

@@ -3,14 +3,14 @@
 -- Assumes nothing.
 use mathlib.Core.Path.{_≡_}
 use mathlib.Core.List.{List, [], _∷_}
-use Prim.Native.Nat.{ℕ, _+_, _≤_, _<_, _%_, _^_}
+use Prim.Native.Nat.{ℕ, _+_, _<_, _%_, _^_}
 use lib.ListN.{length, getD, set}
 use Rattle.pearson.specs.Table.{table}
 use Rattle.pearson.specs.Mapping.{own, after, lasts}
 use Rattle.pearson.specs.Steps.{steps}
-use Rattle.generate.specs.declared.Window.{Window}
-use Rattle.generate.specs.Feed.{bump}
-use Rattle.generate.specs.Window.{moves, hits}
+use Rattle.leap.specs.declared.Window.{Window}
+use Rattle.leap.specs.Count.{bump}
+use Rattle.leap.specs.Window.{moves, hits}
 
 -- k more at the counter i, which rolls over
 unfoldable pub bumpBy : List ℕ → ℕ → ℕ → List ℕ
@@ -46,8 +46,3 @@ pub record Scanned (v : ℕ) (bs rs : List ℕ) (w : Window) (rs′ : List ℕ) 
   pub wide : length rs′ ≡ 256
   pub window : w′ ≡ moves v bs w
   pub counters : (cs : List ℕ) → counts v cs rs′ ≡ hits v bs w (counts v cs rs)
-
--- m of n bytes, some fours
-pub record Fours (n m : ℕ) : Type 0 where
-  pub most : m ≤ n
-  pub whole : m % 4 ≡ 0

@@ -1,9 +1,9 @@
--- `generate::turn_four` meets its contract.
+-- `leap::turn_four` meets its contract.
 -- Assumes nothing.
-use Rattle.generate.proofs.Turns.{scanned-four}
+use Rattle.leap.proofs.Turns.{scanned-four}
 use borrow.Author.Needs.{needs}
-use Rattle.generate.proofs.turn_four.Statement.{statement}
-use Rattle.generate.proofs.turn_four.Tie as tie
+use Rattle.leap.proofs.turn_four.Statement.{statement}
+use Rattle.leap.proofs.turn_four.Tie as tie
 
 turn-requires : tie.Need-turn-requires
 turn-requires c κs = search needs

@@ -1,9 +1,9 @@
--- `generate::leap` meets its contract: the tables that it lends are the variant's.
+-- `leap::leap` meets its contract: the tables that it lends are the variant's.
 -- Assumes nothing.
-use Rattle.generate.proofs.Turns.{ran-none, lent-other}
+use Rattle.leap.proofs.Turns.{ran-none, lent-other}
 use borrow.Author.Needs.{needs}
-use Rattle.generate.proofs.leap.Statement.{statement}
-use Rattle.generate.proofs.leap.Tie as tie
+use Rattle.leap.proofs.leap.Statement.{statement}
+use Rattle.leap.proofs.leap.Tie as tie
 
 returns : tie.Need-returns
 returns c = search ran-none

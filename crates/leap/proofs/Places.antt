@@ -14,8 +14,18 @@ use lib.Bits.{bitXor}
 use Rattle.pearson.specs.Table.{table}
 use Rattle.pearson.specs.Mapping.{own, after, lasts}
 use Rattle.pearson.proofs.Values.{lasts-own}
-use Rattle.generate.specs.Feed.{bump}
-use Rattle.generate.specs.Places.{bumpBy, spread, counts, Small, Marked}
+use Rattle.leap.specs.Count.{bump}
+use Rattle.leap.specs.Places.{bumpBy, spread, counts, Small, Marked}
+
+-- the rolled-over sum stored at a counter is one more at it
+pub bumped : (cs : List ℕ) (i x : ℕ) → x ≡ (getD cs i 0 + 1) % 2 ^ 32 → set cs i x ≡ bump cs i
+unfolding bump
+bumped cs i x e = rw e
+
+-- and so with some more
+pub bumped-by : (cs : List ℕ) (i k x : ℕ) → x ≡ (getD cs i 0 + k) % 2 ^ 32 → set cs i x ≡ bumpBy cs i k
+unfolding bumpBy
+bumped-by cs i k x e = rw e
 
 -- two additions at one counter are one
 add-same : (cs : List ℕ) (i j k : ℕ) → Dec (i < length cs) → bumpBy (bumpBy cs i j) i k ≡ bumpBy cs i ((j + k) % 2 ^ 32)

@@ -1,9 +1,9 @@
--- `generate::increment` meets its contract: the counter is read, and one more is stored.
+-- `leap::increment` meets its contract: the counter is read, and one more is stored.
 -- Assumes nothing.
-use Rattle.generate.proofs.Loops.{bumped}
+use Rattle.leap.proofs.Places.{bumped}
 use borrow.Author.Needs.{needs}
-use Rattle.generate.proofs.increment.Statement.{statement}
-use Rattle.generate.proofs.increment.Tie as tie
+use Rattle.leap.proofs.increment.Statement.{statement}
+use Rattle.leap.proofs.increment.Tie as tie
 
 mul-old : tie.Need-mul-old
 mul-old c = search needs

@@ -1,10 +1,10 @@
--- `generate::mark` meets its contract: the xor of two bytes is a place.
+-- `leap::mark` meets its contract: the xor of two bytes is a place.
 -- Assumes nothing.
 use Rattle.pearson.proofs.Values.{xor-below}
-use Rattle.generate.proofs.Places.{marked-place}
+use Rattle.leap.proofs.Places.{marked-place}
 use borrow.Author.Needs.{needs}
-use Rattle.generate.proofs.mark.Statement.{statement}
-use Rattle.generate.proofs.mark.Tie as tie
+use Rattle.leap.proofs.mark.Statement.{statement}
+use Rattle.leap.proofs.mark.Tie as tie
 
 update-requires : tie.Need-update-requires
 update-requires c κs = search needs

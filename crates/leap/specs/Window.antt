@@ -1,12 +1,11 @@
--- What the loop over the later bytes does, on the counters where they lie and the rest of the state in a small struct. Only
--- private functions cite this.
+-- What a list of later bytes does, on the counters where they lie and on a small struct: the checksum and the last four bytes.
 -- Assumes nothing.
 use mathlib.Core.Path.{_≡_}
 use mathlib.Core.List.{List, [], _∷_}
-use Prim.Native.Nat.{ℕ, _+_, _-_, min}
-use Rattle.generate.specs.declared.Window.{Window}
-use Rattle.generate.specs.declared.Cuts.{Cuts}
-use Rattle.generate.specs.Feed.{stop, checked, counted}
+use Prim.Native.Nat.{ℕ, _*_, _/_}
+use lib.ListN.{length, take}
+use Rattle.leap.specs.declared.Window.{Window}
+use Rattle.leap.specs.Count.{checked, counted}
 
 -- the window after a byte
 unfoldable pub moved : ℕ → Window → ℕ → Window
@@ -31,15 +30,6 @@ pub record Ran (v : ℕ) (bs cs : List ℕ) (w : Window) (cs′ : List ℕ) (w�
   pub window : w′ ≡ moves v bs w
   pub counters : cs′ ≡ hits v bs w cs
 
--- w is the window of a checksum c and a tail t
-pub record Opened (c : ℕ) (t : List ℕ) (w : Window) : Type 0 where
-  pub sum : w .checksum ≡ c
-  pub bytes : w .b0 ∷ w .b1 ∷ w .b2 ∷ w .b3 ∷ [] ≡ t
-
--- where n bytes to a length field l and a tail length k are cut: as many as the tail lacks fill it, and of the others as many are
--- counted as the length field has room for
-pub record CutsOf (l k n : ℕ) (c : Cuts) : Type 0 where
-  pub fills : c .first ≡ min n (4 - k)
-  pub counts : c .last ≡ c .first + min (n - c .first) (stop - l)
-  pub rises : c .length ≡ l + (c .last - c .first)
-  pub grows : c .«tail_len» ≡ k + c .first
+-- the whole fours of a list: all of it but the last three at most
+unfoldable pub fours : List ℕ → List ℕ
+fours bs = take (length bs / 4 * 4) bs

@@ -1,22 +1,26 @@
 -- The laws of the fast loop: the six places of a byte, four bytes a turn, and the places' numbers spread in the end.
 -- Assumes nothing.
 use mathlib.Core.Path.{_≡_, refl, _∙_, ap, ap₂, sym}
-use mathlib.Core.List.{List, [], _∷_, _++_}
+use mathlib.Core.List.{List, [], _∷_}
 use Prim.Native.Nat.{ℕ, _+_, _-_, _*_, _/_, _%_, _≤_, _<_}
+use native.Mathlib.Numerals.{add-one}
 use native.Mathlib.Omega.{arith}
-use lib.ListN.{length, getD, take, drop, replicate, take-append-drop, drop-of-length-le, length-take, length-drop}
-use lib.Seq.{take-all}
+use lib.ListN.{length, getD, take, drop, replicate, drop-of-length-le, length-take}
+use lib.Seq.{drop-cons}
 use Rattle.pearson.specs.Mapping.{own, after, mapping, bucket, lasts}
 use Rattle.pearson.specs.Table.{table}
 use Rattle.pearson.specs.Steps.{first, packed, steps}
 use Rattle.pearson.proofs.Values.{lasts-other}
 use Rattle.pearson.proofs.Steps.{unpack}
-use Rattle.generate.specs.declared.Window.{Window}
-use Rattle.generate.specs.Feed.{bump, checked, counted}
-use Rattle.generate.specs.Window.{moved, moves, hit, hits, Ran}
-use Rattle.generate.specs.Places.{spread, counts, Small, Lent, Marked, Scanned, Fours}
-use Rattle.generate.proofs.Places.{spread-none}
-use Rattle.generate.proofs.Loops.{next}
+use Rattle.leap.specs.declared.Window.{Window}
+use Rattle.leap.specs.Count.{bump, checked, counted}
+use Rattle.leap.specs.Window.{moved, moves, hit, hits, Ran, fours}
+use Rattle.leap.specs.Places.{spread, counts, Small, Lent, Marked, Scanned}
+use Rattle.leap.proofs.Places.{spread-none}
+
+-- what is left after i bytes: the byte at i, and what is left after one more
+pub next : (xs : List ℕ) (i : ℕ) → i < length xs → drop i xs ≡ getD xs i 0 ∷ drop (i + 1) xs
+next xs i h = rw (add-one i) (drop-cons xs i 0 h)
 
 -- a place marked from the state after a salt a and a byte b, and two bytes more, is one more at their mapping's value
 placed : {v x : ℕ} (a b : ℕ) {c d : ℕ} {rs rs′ : List ℕ} → Marked v rs x c d rs′ → x ≡ first a b
@@ -117,41 +121,11 @@ module _ {v : ℕ} {xs rs₀ : List ℕ} {w₀ : Window} {i : ℕ} {rs : List �
         counters = λ cs. rw (drop-of-length-le xs {i = i} h) at (p .counters cs);
       }
 
--- a part of some fours has that length
-pub fours-length : (xs : List ℕ) (m : ℕ) → Fours (length xs) m → m ≡ length (take m xs)
-fours-length xs m f = omega (arith, length-take m xs, f .most)
-
-pub fours-whole : (xs : List ℕ) (m : ℕ) → Fours (length xs) m → length (take m xs) % 4 ≡ 0
-fours-whole xs m f = omega (arith, length-take m xs, f .most, f .whole)
-
 -- outside the short variant T serves for the last byte too
 pub lent-other : (v : ℕ) (ps ts : List ℕ) → ps ≡ steps → ts ≡ table → (v ≡ 48 → ⊥) → Lent v ps ts ts
 lent-other v ps ts p t n = record { starts = p; middles = t; ends = t ∙ sym (lasts-other v n) }
 
--- the window and the counters after a list that is cut in two
-moves-cut : (v : ℕ) (xs ys : List ℕ) (w : Window) → moves v (xs ++ ys) w ≡ moves v ys (moves v xs w)
-unfolding moves
-moves-cut v [] ys w = refl
-moves-cut v (x ∷ xs) ys w = moves-cut v xs ys (moved v w x)
-
-hits-cut : (v : ℕ) (xs ys : List ℕ) (w : Window) (cs : List ℕ) → hits v (xs ++ ys) w cs ≡ hits v ys (moves v xs w) (hits v xs w cs)
-unfolding moves hits
-hits-cut v [] ys w cs = refl
-hits-cut v (x ∷ xs) ys w cs = hits-cut v xs ys (moved v w x) (hit v w cs x)
-
--- bytes that are run in two parts are run
-pub ran-cut : (v m : ℕ) (xs cs ds es : List ℕ) (w w1 w2 : Window) → Ran v (take m xs) cs w ds w1
-    → Ran v (take (length xs - m) (drop m xs)) ds w1 es w2 → Ran v xs cs w es w2
-ran-cut v m xs cs ds es w w1 w2 p q =
-    let all : take (length xs - m) (drop m xs) ≡ drop m xs = take-all (length xs - m) (drop m xs) (omega (arith, length-drop m xs)) in
-    let window = rw (all, p .window) at (q .window) in
-    let counters = rw (all, p .window, p .counters) at (q .counters) in
-    record {
-      window = rw (take-append-drop m xs) at (window ∙ sym (moves-cut v (take m xs) (drop m xs) w));
-      counters = rw (take-append-drop m xs) at (counters ∙ sym (hits-cut v (take m xs) (drop m xs) w cs));
-    }
-
--- no bytes are run where there are none
+-- no byte is run where there is none
 pub ran-none : (v : ℕ) (xs cs : List ℕ) (w : Window) → length xs ≡ 0 → Ran v xs cs w cs w
 unfolding moves hits
 ran-none v [] cs w e = record { window = refl; counters = refl }
@@ -166,3 +140,16 @@ ran-spread v xs ls cs rs ds w w1 l small s d =
       window = s .window;
       counters = rw (d, l) (rw (spread-none 256 cs (lasts v) small) at (s .counters cs));
     }
+
+-- the whole fours of a list are as many bytes as they are cut at
+pub fours-length : (xs : List ℕ) → length xs / 4 * 4 ≡ length (take (length xs / 4 * 4) xs)
+fours-length xs = omega (arith, length-take (length xs / 4 * 4) xs)
+
+-- and these are some fours
+pub fours-whole : (xs : List ℕ) → length (take (length xs / 4 * 4) xs) % 4 ≡ 0
+fours-whole xs = omega (arith, length-take (length xs / 4 * 4) xs)
+
+-- what they do is what the whole fours do
+pub ran-fours : (v : ℕ) (xs cs ds : List ℕ) (w w1 : Window) → Ran v (take (length xs / 4 * 4) xs) cs w ds w1 → Ran v (fours xs) cs w ds w1
+unfolding fours
+ran-fours v xs cs ds w w1 r = r

@@ -1,10 +1,10 @@
--- `generate::spread_out` meets its contract: after z places, those that are left lead to the same end.
+-- `leap::spread_out` meets its contract: after z places, those that are left lead to the same end.
 -- Assumes nothing.
 use Prim.Native.Nat.{_-_}
-use Rattle.generate.proofs.Places.{Spreads, spreads-none, spreads-more, spreads-all}
+use Rattle.leap.proofs.Places.{Spreads, spreads-none, spreads-more, spreads-all}
 use borrow.Author.Needs.{needs}
-use Rattle.generate.proofs.spread_out.Statement.{statement}
-use Rattle.generate.proofs.spread_out.Tie as tie
+use Rattle.leap.proofs.spread_out.Statement.{statement}
+use Rattle.leap.proofs.spread_out.Tie as tie
 
 abbrev Inv-loop : tie.InvT-loop
 Inv-loop l places counters₀ z₀ counters z = Spreads counters₀ places l z counters
