@@ -1,4 +1,4 @@
--- A table's rule is one test that antt computes over the whole table. This law turns the test into the rule at each entry.
+-- A rule of a table, or of all numbers below one, is one test that antt computes. These laws turn the test into the rule at each entry.
 -- Assumes nothing.
 use mathlib.Core.Path.{_≡_, _∙_, subst, sym}
 use mathlib.Core.Bool.{Bool, true, false, _&&_}
@@ -6,7 +6,7 @@ use mathlib.Core.List.{List, [], _∷_}
 use Prim.Native.Nat.{ℕ, zero, suc, _+_, _<_}
 use native.Mathlib.Nat.{add-zero, zero-add, add-suc, suc-add, le-of-suc-le-suc, not-suc-le-zero}
 use lib.Dec.{T}
-use lib.ListN.{length, getD}
+use lib.ListN.{length, getD, replicate, length-replicate}
 use Rattle.params.specs.Words.{every}
 
 -- both tests pass where their conjunction does
@@ -28,3 +28,7 @@ from f (x ∷ xs) i t (suc k) h =
 -- a test that passes at every entry passes at the entry of place k
 pub every-at : (f : ℕ → ℕ → Bool) (xs : List ℕ) → T (every f 0 xs) → (k : ℕ) → k < length xs → T (f k (getD xs k 0))
 every-at f xs t k h = subst (λ (m : ℕ). T (f m (getD xs k 0))) (zero-add k) (from f xs 0 t k h)
+
+-- a test that antt computes at each number below n passes at each of them
+pub below : (test : ℕ → Bool) (n : ℕ) → T (every (λ (k x : ℕ). test k) 0 (replicate n 0)) → (k : ℕ) → k < n → T (test k)
+below test n t k h = every-at (λ (k x : ℕ). test k) (replicate n 0) t k (rw length-replicate h)

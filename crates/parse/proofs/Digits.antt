@@ -7,17 +7,13 @@ use Prim.Native.Nat.{ℕ, zero, suc, _+_, _-_, _*_, _/_, _%_, _≤_, _<_}
 use native.Mathlib.Nat.{not-suc-le-zero, le-of-suc-le-suc}
 use native.Mathlib.Omega.{arith}
 use lib.Dec.{T, leb, ltb, eqb, leb→le, ltb→lt, eqb→eq}
-use lib.ListN.{length, getD, replicate, length-replicate}
+use lib.ListN.{length, getD, replicate}
 use borrow.Author.Tests.{leb-true, lt-ltb, le-ltb, le-leb, lt-leb}
 use Rattle.params.specs.Words.{every}
-use Rattle.params.proofs.Every.{every-at}
+use Rattle.params.proofs.Every.{below}
 use Rattle.text.specs.Text.{digitOf}
 use Rattle.parse.specs.Reading.{isDigit, valueOf, byteFrom, allDigits}
 use Rattle.params.proofs.Tests.{and-both}
-
--- a test that antt computes at each number below n passes at each of them
-below : (test : ℕ → Bool) (n : ℕ) → T (every (λ (k x : ℕ). test k) 0 (replicate n 0)) → (k : ℕ) → k < n → T (test k)
-below test n t k h = every-at (λ (k x : ℕ). test k) (replicate n 0) t k (rw length-replicate h)
 
 -- a digit's character is at most that of F
 pub digit-most : (c : ℕ) → isDigit c ≡ true → c ≤ 70

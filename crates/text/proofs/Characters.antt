@@ -2,10 +2,11 @@
 -- Assumes nothing.
 use mathlib.Core.Path.{_≡_, refl}
 use mathlib.Core.Bool.{Bool, true, false, cond}
-use Prim.Native.Nat.{ℕ, _+_, _≤_, _<_}
+use Prim.Native.Nat.{ℕ, _+_, _*_, _/_, _%_, _≤_, _<_}
 use native.Mathlib.Omega.{arith}
-use lib.Dec.{ltb}
+use lib.Dec.{T, ltb, eqb, ltb→lt, eqb→eq}
 use borrow.Author.Tests.{lt-ltb, le-ltb}
+use Rattle.params.proofs.Every.{below}
 use Rattle.text.specs.Text.{digitOf}
 
 -- up to 9 nothing is added for the gap before A
@@ -32,3 +33,22 @@ digit-made n x e = go (ltb n 10) refl
     go : (b : Bool) → ltb n 10 ≡ b → 48 + n + x ≡ cond (ltb n 10) (48 + n) (55 + n)
     go true p = let z : x ≡ 0 = rw p at e in rw p (omega arith)
     go false p = let z : x ≡ 7 = rw p at e in rw p (omega arith)
+
+-- what the code makes of two halves
+abbrev pairMade : ℕ → ℕ → ℕ
+pairMade a b = a + 256 * b + 12_336 + 7 * ((a + 256 * b + 1_542) / 16 % 2 + 256 * ((a + 256 * b + 1_542) / 4_096 % 2))
+
+-- it is the number of both characters
+pub pair-made : (a b : ℕ) → a < 16 → b < 16 → pairMade a b ≡ digitOf a + 256 * digitOf b
+unfolding digitOf
+pair-made a b h k =
+    let e : (a + 16 * b) % 16 ≡ a = omega arith in
+    let f : (a + 16 * b) / 16 ≡ b = omega arith in
+    let test : ℕ → Bool = λ (n : ℕ). eqb (pairMade (n % 16) (n / 16)) (digitOf (n % 16) + 256 * digitOf (n / 16)) in
+    let p : T (test (a + 16 * b)) = below test 256 tt (a + 16 * b) (omega arith) in
+    eqb→eq (pairMade a b) (digitOf a + 256 * digitOf b) (rw (e, f) at p)
+
+-- a character is below 128
+pub digit-small : (n : ℕ) → n < 16 → digitOf n < 128
+unfolding digitOf
+digit-small n h = ltb→lt (digitOf n) 128 (below (λ (x : ℕ). ltb (digitOf x) 128) 16 tt n h)

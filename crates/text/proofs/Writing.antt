@@ -3,7 +3,7 @@
 use mathlib.Core.Path.{_≡_, refl, sym, _∙_, ap}
 use mathlib.Core.Bool.{Bool, true, false, not}
 use mathlib.Core.List.{List, [], _∷_, _++_}
-use Prim.Native.Nat.{ℕ, suc, _+_, _*_, _≤_, _<_}
+use Prim.Native.Nat.{ℕ, suc, _+_, _*_, _/_, _%_, _≤_, _<_}
 use native.Mathlib.Nat.{zero-add, add-zero}
 use native.Mathlib.Numerals.{add-one}
 use native.Mathlib.Omega.{arith}
@@ -16,6 +16,7 @@ use Rattle.params.specs.Answers.{done, unknownVariant, shortDestination}
 use Rattle.hash.specs.declared.Digest.{Digest}
 use Rattle.text.specs.declared.SizeAnswer.{SizeAnswer}
 use Rattle.body.specs.Body.{bytesOf}
+use Rattle.text.proofs.Characters.{digit-small}
 use Rattle.text.specs.Text.{sizeOf, digitOf, lowFirst, highFirst, headText, bodyText, textOf, textSize, Written, writeOf}
 
 -- two lists of stores, one after the other
@@ -25,10 +26,16 @@ sets-append (v ∷ vs) ws l i =
     let e : i + suc (length vs) ≡ suc i + length vs = omega arith in
     rw e (sets-append vs ws (set l i v) (suc i))
 
--- two characters stored in turn are the digits of two numbers
-pub two-stored : (a b x y at : ℕ) (l : List ℕ) → x ≡ digitOf a → y ≡ digitOf b
-    → set (set l at x) (at + 1) y ≡ sets l at (digitOf a ∷ digitOf b ∷ [])
-two-stored a b x y at l p q = rw (p, q, add-one at)
+-- two characters stored in turn from the number of both are those of two digits
+pub two-stored : (a b p at : ℕ) (l : List ℕ) → a < 16 → b < 16 → p ≡ digitOf a + 256 * digitOf b
+    → set (set l at (p % 256)) (at + 1) (p / 256 % 256) ≡ sets l at (digitOf a ∷ digitOf b ∷ [])
+two-stored a b p at l h k q =
+    let x = digit-small a h in
+    let y = digit-small b k in
+    let e : p % 256 ≡ digitOf a = omega arith in
+    let f : p / 256 ≡ digitOf b = omega arith in
+    let g : digitOf b % 256 ≡ digitOf b = omega arith in
+    rw (e, f, g, add-one at)
 
 -- the second is stored within
 pub second-within : (at x : ℕ) (l : List ℕ) → at + 2 ≤ length l → at + 1 < length (set l at x)

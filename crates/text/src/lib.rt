@@ -59,13 +59,25 @@ fn digit_of(n: u8) -> u8
     48 + n + past_nine(n)
 }
 
+// Two digits as one number, the first in its low byte. A half past 9 carries once 6 is added, and then skips the characters before A.
+fn pair_of(first: u8, second: u8) -> u32
+    requires { ⌜ (first < 16) × (second < 16) ⌝ }
+    ensures { λ r. ⌜ r ≡ digitOf first + 256 * digitOf second ⌝ }
+{
+    let halves = first as u32 + 256 * second as u32;
+    let more = halves + 1_542;
+    let past = more / 16 % 2 + 256 * (more / 4_096 % 2);
+    halves + 12_336 + 7 * past
+}
+
 // Stores two digits at a place.
 fn put(destination: &mut [u8], at: usize, first: u8, second: u8)
     requires { ⌜ (first < 16) × (second < 16) × (at + 2 ≤ length (now destination)) ⌝ }
     ensures { λ _. ⌜ now (destination .exit) ≡ sets (now (destination .entry)) at (digitOf first ∷ digitOf second ∷ []) ⌝ }
 {
-    destination[at] = digit_of(first);
-    destination[at + 1] = digit_of(second);
+    let pair = pair_of(first, second);
+    destination[at] = (pair % 256) as u8;
+    destination[at + 1] = (pair / 256 % 256) as u8;
 }
 
 // A byte's high digit.

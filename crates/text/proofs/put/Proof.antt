@@ -5,14 +5,17 @@ use borrow.Author.Needs.{needs}
 use Rattle.text.proofs.put.Statement.{statement}
 use Rattle.text.proofs.put.Tie as tie
 
-digit-of-requires : tie.Need-digit-of-requires
-digit-of-requires c κs = search needs
+pair-of-requires : tie.Need-pair-of-requires
+pair-of-requires c κs = search needs
+
+cast-destination : tie.Need-cast-destination
+cast-destination c = search needs
 
 slice-write-destination : tie.Need-slice-write-destination
 slice-write-destination c = search needs
 
-digit-of-requires-2 : tie.Need-digit-of-requires-2
-digit-of-requires-2 c κs = search needs
+cast-destination-2 : tie.Need-cast-destination-2
+cast-destination-2 c = search needs
 
 add-destination : tie.Need-add-destination
 add-destination c = search needs
@@ -30,9 +33,10 @@ pub put-spec : {M : Type 1} → statement M
 put-spec =
     tie.close
     (tie.spec
-    digit-of-requires
+    pair-of-requires
+    cast-destination
     slice-write-destination
-    digit-of-requires-2
+    cast-destination-2
     add-destination
     slice-write-destination-2
     same-length
