@@ -188,13 +188,6 @@ fn fill(tail: [u8; 4], n: u32, bytes: &[u8]) -> [u8; 4]
     next
 }
 
-// The smaller of two numbers.
-fn least(a: usize, b: usize) -> usize
-    ensures { λ r. ⌜ r ≡ min a b ⌝ }
-{
-    if a < b { a } else { b }
-}
-
 // Where an update's bytes are cut, and the length field and the tail length after them.
 fn cuts_of(length: u32, tail_len: u32, n: usize) -> Cuts
     requires { ⌜ marked length «tail_len» ≡ false ⌝ }
@@ -202,8 +195,8 @@ fn cuts_of(length: u32, tail_len: u32, n: usize) -> Cuts
 {
     let short = (TAIL_SIZE - tail_len) as usize;
     let room = (MAX_LEN - length) as usize;
-    let filling = least(n, short);
-    let counted = least(n - filling, room);
+    let filling = params::smaller(n, short);
+    let counted = params::smaller(n - filling, room);
     let last = filling + counted;
     let more = length + counted as u32;
     let longer = tail_len + filling as u32;

@@ -92,13 +92,6 @@ fn feed_piece(s: State, m: usize, n: Input, digits: &[u8], i: usize, x: u32) -> 
     Fed { state: next, x: y }
 }
 
-// The smaller of two numbers.
-fn smaller(a: usize, b: usize) -> usize
-    ensures { λ r. ⌜ r ≡ min a b ⌝ }
-{
-    if a < b { a } else { b }
-}
-
 // Feeds an input in pieces of so many bytes, the last one shorter.
 fn feed_pieces(s: State, piece: usize, n: Input, digits: &[u8]) -> State
     requires { ⌜ (0 < piece) × (piece ≤ 65_536) ⌝ }
@@ -108,7 +101,7 @@ fn feed_pieces(s: State, piece: usize, n: Input, digits: &[u8]) -> State
     let mut x = n.seed;
     let mut i = 0;
     while i < n.length as usize {
-        let m = smaller(piece, n.length as usize - i);
+        let m = params::smaller(piece, n.length as usize - i);
         let fed = feed_piece(state, m, n, digits, i, x);
         let next = fed.state;
         state = next;
@@ -126,7 +119,7 @@ fn piece_of(piece: u32) -> usize
     if size < 1 {
         return MOST;
     }
-    smaller(size, MOST)
+    params::smaller(size, MOST)
 }
 
 // The state after an input, fed in pieces of so many bytes.

@@ -1,5 +1,6 @@
 // The variants, and the numbers of the answers (params.rs, errors.rs).
 ghost use mathlib.Core.Path.{_≡_};
+ghost use Prim.Native.Nat.{min};
 ghost use Rattle.params.specs.Variants.{known};
 
 // The three variants are named by their number of used buckets.
@@ -47,4 +48,11 @@ pub fn is_known(variant: u32) -> bool
         return true;
     }
     variant == LONG
+}
+
+// The smaller of two numbers.
+pub fn smaller(a: usize, b: usize) -> usize
+    ensures { λ r. ⌜ r ≡ min a b ⌝ }
+{
+    if a < b { a } else { b }
 }

@@ -1,16 +1,16 @@
 -- The laws that the reader's functions cite: the loops that test the digits, the loops that make the body, and each answer.
 -- Assumes nothing.
 use mathlib.Core.Path.{_≡_, refl, sym, _∙_, ap, subst}
-use mathlib.Core.Bool.{Bool, true, false, cond, not, _&&_, and-assoc, and-true, true≢false}
+use mathlib.Core.Bool.{Bool, true, false, not, _&&_, and-assoc, and-true, true≢false}
 use mathlib.Core.List.{List, [], _∷_, _++_}
-use Prim.Native.Nat.{ℕ, zero, suc, _+_, _-_, _*_, _≤_, _<_}
+use Prim.Native.Nat.{ℕ, zero, suc, _+_, _-_, _*_, _≤_, _<_, min}
 use native.Mathlib.Numerals.{add-one}
 use native.Mathlib.Omega.{arith}
 use lib.ListN.{length, getD, set, take, drop, replicate, length-drop, length-append, length-replicate, drop-of-length-le, take-append-drop}
 use lib.Seq.{sets, length-sets, sets-eq, take-suc, length-take-le, take-all, take-add, take-take, take-append-le}
 use lib.Seq.{take-nil, drop-nil, drop-cons, drop-drop, drop-append-add}
 use lib.Dec.{ltb}
-use borrow.Author.Tests.{lt-ltb, le-ltb, ltb-true, ltb-false, not-true, eq-eqb, ne-eqb}
+use borrow.Author.Tests.{ltb-true, ltb-false, not-true, eq-eqb, ne-eqb}
 use Rattle.params.specs.Variants.{known}
 use Rattle.params.proofs.Variants.{by-variant}
 use Rattle.params.specs.Answers.{done, unknownVariant, wrongSize, wrongCharacter}
@@ -63,28 +63,19 @@ digits-drop t n e = and-both (allDigits (take n t)) (allDigits (drop n t)) (sym 
 pub digits-part : (t : List ℕ) (n k : ℕ) → allDigits t ≡ true → allDigits (take k (drop n t)) ≡ true
 digits-part t n k e = digits-take (drop n t) k (digits-drop t n e)
 
--- a block's beginning, as the test of it goes
-pub block-next : (i last : ℕ) → i < last → i ≡ cond (ltb i last) i last
-block-next i last h = rw (lt-ltb i last h)
-
-pub block-last : (i last : ℕ) → last ≤ i → last ≡ cond (ltb i last) i last
-block-last i last h = rw (le-ltb i last h)
-
 -- the last block begins where it ends with the row, and each before it where the one before that ends
-block-cases : (r i last : ℕ) (P : ℕ → Type 0) → r ≡ cond (ltb i last) i last → (i < last → P i) → (last ≤ i → P last) → P r
+block-cases : (r i last : ℕ) (P : ℕ → Type 0) → r ≡ min i last → (i < last → P i) → (last ≤ i → P last) → P r
 block-cases r i last P e f g = go (ltb i last) refl
   where
     go : (b : Bool) → ltb i last ≡ b → P r
-    go true p = subst P (sym (rw p at e)) (f (ltb-true i last p))
-    go false p = subst P (sym (rw p at e)) (g (ltb-false i last p))
-
--- it begins at most there
-pub block-least : (r i last : ℕ) → r ≡ cond (ltb i last) i last → r ≤ last
-block-least r i last e = block-cases r i last (λ (x : ℕ). x ≤ last) e (λ (h : i < last). omega arith) (λ (h : last ≤ i). omega arith)
-
--- and not past i
-block-early : (r i last : ℕ) → r ≡ cond (ltb i last) i last → r ≤ i
-block-early r i last e = block-cases r i last (λ (x : ℕ). x ≤ i) e (λ (h : i < last). omega arith) (λ (h : last ≤ i). omega arith)
+    go true p =
+        let h : i < last = ltb-true i last p in
+        let m : r ≡ i = omega arith in
+        subst P (sym m) (f h)
+    go false p =
+        let h : last ≤ i = ltb-false i last p in
+        let m : r ≡ last = omega arith in
+        subst P (sym m) (g h)
 
 -- what the loop over blocks of characters keeps: those before place i are digits alone
 pub record Front (t : List ℕ) (i : ℕ) : Type 0 where
@@ -103,13 +94,13 @@ front-join t i at h p q =
 
 -- a turn tests the next block
 pub front-more : (t : List ℕ) (i at : ℕ) (b : Bool) → Front t i → 16 ≤ length t
-    → at ≡ cond (ltb i (length t - 16)) i (length t - 16) → b ≡ allDigits (take (at + 16 - at) (drop at t)) → not b ≡ false
+    → at ≡ min i (length t - 16) → b ≡ allDigits (take (at + 16 - at) (drop at t)) → not b ≡ false
     → Front t (i + 16)
 front-more t i at b p k e q n =
     let last = length t - 16 in
     let f : at + 16 - at ≡ 16 = omega arith in
     let block : allDigits (take 16 (drop at t)) ≡ true = rw f at (passed (allDigits (take (at + 16 - at) (drop at t))) b q n) in
-    let joined = front-join t i at (block-early at i last e) (p .digits) block in
+    let joined = front-join t i at (omega arith) (p .digits) block in
     record {
       digits =
           block-cases at i last (λ (x : ℕ). allDigits (take (x + 16) t) ≡ true → allDigits (take (i + 16) t) ≡ true) e
@@ -259,7 +250,7 @@ module _ (t : List ℕ) (m : ℕ) (long : length t ≡ 6 + 2 * m) where
 
   -- a turn stores the next eight, or the last eight
   pub bodied-more : (body l : List ℕ) (i at : ℕ) → Bodied t m i body → i < m → 8 ≤ m → m ≤ 64
-      → at ≡ cond (ltb i (m - 8)) i (m - 8) → l ≡ sets body at (bytesFrom (take (22 + 2 * at - (6 + 2 * at)) (drop (6 + 2 * at) t)))
+      → at ≡ min i (m - 8) → l ≡ sets body at (bytesFrom (take (22 + 2 * at - (6 + 2 * at)) (drop (6 + 2 * at) t)))
       → Bodied t m (i + 8) l
   bodied-more body l i at p h k v e q =
       let bytes = bytesFrom (drop 6 t) in
@@ -267,13 +258,12 @@ module _ (t : List ℕ) (m : ℕ) (long : length t ≡ 6 + 2 * m) where
       let last = m - 8 in
       let a : length (take i bytes) ≡ i = length-take-le i bytes (omega arith) in
       let f : 22 + 2 * at - (6 + 2 * at) ≡ 16 = omega arith in
-      let least = block-least at i last e in
-      let late : i ≤ at + 8 =
-      block-cases at i last (λ (x : ℕ). i ≤ x + 8) e (λ (z : i < last). omega arith) (λ (z : last ≤ i). omega arith) in
+      let least : at ≤ last = omega arith in
+      let late : i ≤ at + 8 = omega arith in
       let stored : l ≡ take (at + 8) bytes ++ replicate (64 - (at + 8)) 0 =
       q
       ∙ rw (p .holds, a, part-eight at (6 + 2 * at) (22 + 2 * at - (6 + 2 * at)) f refl)
-      (eight-stored i at (omega arith) (block-early at i last e) late (omega arith) v) in
+      (eight-stored i at (omega arith) (omega arith) late (omega arith) v) in
       record {
         long = rw (q, length-sets) (p .long);
         holds =

@@ -3,9 +3,8 @@
 // The reader takes what the writer writes and no other form. It tests the size, splits `T1` off, and what is left is one
 // function's work (`read_digits`), in which `is_digit` alone judges a character.
 ghost use mathlib.Core.Path.{_≡_};
-ghost use mathlib.Core.Bool.{true, cond};
+ghost use mathlib.Core.Bool.{true};
 ghost use Prim.Native.Nat.{_+_, _*_, _≤_, _<_};
-ghost use lib.Dec.{ltb};
 ghost use lib.ListN.{length};
 ghost use lib.Seq.{sets};
 ghost use Rattle.parse.specs.Reading.{isDigit, valueOf, allDigits, byteAt, bytesFrom, bodyFrom};
@@ -46,13 +45,6 @@ pub fn all_digits(t: &[u8]) -> bool
     good
 }
 
-// Where a block of a row begins that would begin at i: the last one begins so that it ends with the row.
-fn block_at(i: usize, last: usize) -> usize
-    ensures { λ r. ⌜ (r ≡ cond (ltb i last) i last) × (r ≤ last) ⌝ }
-{
-    if i < last { i } else { last }
-}
-
 // The same of sixteen characters and more, sixteen at a time. The last sixteen may begin among those that were tested.
 fn all_blocks(t: &[u8]) -> bool
     requires { ⌜ 16 ≤ length (now t) ⌝ }
@@ -60,7 +52,7 @@ fn all_blocks(t: &[u8]) -> bool
 {
     let mut i = 0;
     while i < t.len() {
-        let at = block_at(i, t.len() - 16);
+        let at = params::smaller(i, t.len() - 16);
         if !all_digits(&t[at..at + 16]) {
             return false;
         }
@@ -97,7 +89,7 @@ fn body_from(t: &[u8], m: usize) -> [u8; 64]
     let mut body = [0u8; 64];
     let mut i = 0;
     while i < m {
-        let at = block_at(i, m - 8);
+        let at = params::smaller(i, m - 8);
         take_block(&mut body, at, &t[6 + 2 * at..22 + 2 * at]);
         i += 8;
     }

@@ -3,7 +3,7 @@
 use mathlib.Core.Path.{_≡_, sym, _∙_}
 use mathlib.Core.Bool.{Bool}
 use mathlib.Core.List.{List}
-use Prim.Native.Nat.{ℕ}
+use Prim.Native.Nat.{ℕ, min}
 use lib.Ieee.{Float}
 use Rattle.params.specs.Variants.{known}
 use Rattle.pearson.specs.declared.Mapped.{Mapped}
@@ -63,6 +63,9 @@ one-write w a b k l p q = (p .answered ∙ sym (q .answered), p .left ∙ sym (q
 -- ---- params
 is-known : (v : ℕ) → Unique Bool (λ r. r ≡ known v)
 is-known v = one (known v)
+
+smaller : (a b : ℕ) → Unique ℕ (λ r. r ≡ min a b)
+smaller a b = one (min a b)
 
 -- ---- pearson
 subst-table : Unique (List ℕ) (λ r. r ≡ table)

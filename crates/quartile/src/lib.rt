@@ -29,16 +29,6 @@ pub struct QuartilesAnswer {
     pub quartiles: Quartiles,
 }
 
-// The smaller of two numbers.
-fn smaller(a: usize, b: usize) -> usize
-    ensures { λ r. ⌜ r ≡ min a b ⌝ }
-{
-    if a <= b {
-        return a;
-    }
-    b
-}
-
 // One less than n, and 0 for 0.
 fn one_less(n: usize) -> usize
     ensures { λ r. ⌜ r ≡ n - 1 ⌝ }
@@ -73,7 +63,7 @@ pub fn count_le(used: &[u32], v: u32) -> usize
     let mut n: usize = 0;
     let mut i = 0;
     while i < used.len() {
-        let end = i + smaller(used.len() - i, BLOCK);
+        let end = i + params::smaller(used.len() - i, BLOCK);
         let m = count_block(&used[i..end], v);
         i = end;
         n += m as usize;
@@ -140,7 +130,7 @@ pub fn quartiles_of(used: &[u32]) -> Quartiles
 fn quartiles_of_first(counters: &[u32], n: usize) -> Quartiles
     ensures { λ r. ⌜ r ≡ quartiles (take n (now (counters .entry))) ⌝ }
 {
-    let end = smaller(n, counters.len());
+    let end = params::smaller(n, counters.len());
     quartiles_of(&counters[..end])
 }
 

@@ -60,13 +60,6 @@ pub extern "C" fn saltcurtain_digest(
     finish(state, options, destination)
 }
 
-// The smaller of two numbers.
-fn smaller(a: usize, b: usize) -> usize
-    ensures { λ r. ⌜ r ≡ min a b ⌝ }
-{
-    if a < b { a } else { b }
-}
-
 // The state after the input in pieces of so many bytes, the last one shorter.
 fn feed_pieces(s: State, piece: usize, input: &[u8]) -> State
     requires { ⌜ 0 < piece ⌝ }
@@ -75,7 +68,7 @@ fn feed_pieces(s: State, piece: usize, input: &[u8]) -> State
     let mut state = s;
     let mut i = 0;
     while i < input.len() {
-        let end = i + smaller(piece, input.len() - i);
+        let end = i + params::smaller(piece, input.len() - i);
         let fed = generate::update(state, &input[i..end]);
         let next = fed.state;
         state = next;

@@ -17,14 +17,14 @@ sub-room c = search length-bound
 cast-room : tie.Need-cast-room
 cast-room c = search needs
 
-least-requires : tie.Need-least-requires
-least-requires c κs = search needs
+smaller-requires : tie.Need-smaller-requires
+smaller-requires c κs = search needs
 
-sub-least : tie.Need-sub-least
-sub-least c = search needs
+sub-smaller : tie.Need-sub-smaller
+sub-smaller c = search needs
 
-least-requires-2 : tie.Need-least-requires-2
-least-requires-2 c κs = search needs
+smaller-requires-2 : tie.Need-smaller-requires-2
+smaller-requires-2 c κs = search needs
 
 add-last : tie.Need-add-last
 add-last c = search needs
@@ -52,9 +52,9 @@ cuts-of-spec =
     cast-short
     sub-room
     cast-room
-    least-requires
-    sub-least
-    least-requires-2
+    smaller-requires
+    sub-smaller
+    smaller-requires-2
     add-last
     cast-more
     add-more

@@ -16,11 +16,11 @@ abbrev μ-loop : tie.MeasureT-loop
 loop-holds : tie.Need-loop-holds Inv-loop μ-loop
 loop-holds c = search front-none
 
-sub-block-at : tie.Need-sub-block-at Inv-loop μ-loop
-sub-block-at c = search needs
+sub-smaller : tie.Need-sub-smaller Inv-loop μ-loop
+sub-smaller c = search needs
 
-block-at-requires : tie.Need-block-at-requires Inv-loop μ-loop
-block-at-requires c κs = search needs
+smaller-requires : tie.Need-smaller-requires Inv-loop μ-loop
+smaller-requires c κs = search needs
 
 add-all-digits : tie.Need-add-all-digits Inv-loop μ-loop
 add-all-digits c = search needs
@@ -59,8 +59,8 @@ all-blocks-spec =
     Inv-loop
     μ-loop
     loop-holds
-    sub-block-at
-    block-at-requires
+    sub-smaller
+    smaller-requires
     add-all-digits
     sub-all-digits
     part-all-digits-start

@@ -15,11 +15,11 @@ abbrev μ-loop : tie.MeasureT-loop
 loop-holds : tie.Need-loop-holds Inv-loop μ-loop
 loop-holds c = search bodied-none
 
-sub-block-at : tie.Need-sub-block-at Inv-loop μ-loop
-sub-block-at c = search needs
+sub-smaller : tie.Need-sub-smaller Inv-loop μ-loop
+sub-smaller c = search needs
 
-block-at-requires : tie.Need-block-at-requires Inv-loop μ-loop
-block-at-requires c κs = search needs
+smaller-requires : tie.Need-smaller-requires Inv-loop μ-loop
+smaller-requires c κs = search needs
 
 mul-take-block : tie.Need-mul-take-block Inv-loop μ-loop
 mul-take-block c = search needs
@@ -64,8 +64,8 @@ body-from-spec =
     Inv-loop
     μ-loop
     loop-holds
-    sub-block-at
-    block-at-requires
+    sub-smaller
+    smaller-requires
     mul-take-block
     add-take-block
     mul-take-block-2
