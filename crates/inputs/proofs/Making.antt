@@ -1,7 +1,6 @@
 -- The laws that the functions on inputs cite: a byte by its kind, the loop that stores bytes, and the one that feeds them.
 -- Assumes nothing.
 use mathlib.Core.Path.{_≡_, refl, sym, _∙_, ap}
-use mathlib.Core.Bool.{Bool, true, false}
 use mathlib.Core.List.{List, [], _∷_, _++_, append-assoc, append-nil}
 use Prim.Native.Nat.{ℕ, zero, suc, _+_, _-_, _/_, _%_, _≤_, _<_, min}
 use native.Mathlib.Nat.{mod-lt}
@@ -10,12 +9,10 @@ use native.Mathlib.Omega.{arith}
 use lib.ListN.{length, getD, set, take, drop, length-append, length-drop}
 use lib.Seq.{drop-cons, set-at, append-snoc, take-at}
 use borrow.Author.Tests.{eq-eqb, ne-eqb}
-use Rattle.params.specs.Variants.{known}
 use Rattle.generate.specs.declared.State.{State}
 use Rattle.generate.specs.declared.StateAnswer.{StateAnswer}
-use Rattle.generate.specs.Feed.{feed}
-use Rattle.generate.specs.Answer.{marked, updated}
-use Rattle.generate.proofs.Chunks.{two-updates}
+use Rattle.generate.specs.Answer.{updated}
+use Rattle.generate.proofs.Chunks.{updated-none, two-updates}
 use Rattle.inputs.specs.declared.Input.{Input}
 use Rattle.pattern.specs.Pattern.{repeated}
 use Rattle.inputs.specs.Input.{drawn, drawnTimes, byteBy, byteAt, bytesFrom}
@@ -144,13 +141,6 @@ bytes-joined n digits i (suc m) =
     rw (s, z, ← bytes-joined n digits i m)
     (sym (append-assoc (bytesFrom n digits 0 i) (bytesFrom n digits i m) (byteAt n digits (i + m) ∷ [])))
 
--- an update with no byte leaves the state
-none-by : (s : State) (k m : Bool) → known (s .variant) ≡ k → marked (s .length) (s .«tail_len») ≡ m → s ≡ updated s [] .state
-unfolding updated feed
-none-by s true true p q = rw (p, q)
-none-by s true false p q = rw (p, q)
-none-by s false m p q = rw p
-
 -- what the loop keeps: the state after i bytes, and x after their draws
 pub record Taken (s₀ : State) (n : Input) (digits : List ℕ) (s : State) (x i : ℕ) : Type 0 where
   pub within : i ≤ n .length
@@ -163,7 +153,7 @@ taken-none s n digits =
     record {
       within = omega arith;
       draws = refl;
-      is = none-by s (known (s .variant)) (marked (s .length) (s .«tail_len»)) refl refl;
+      is = updated-none s;
     }
 
 -- a turn feeds a piece
