@@ -11,7 +11,7 @@ use lib.Seq.{getD-set-same, getD-set-other}
 use Rattle.params.specs.Words.{sum}
 use Rattle.pearson.specs.Mapping.{bucket}
 use Rattle.pearson.proofs.Values.{bucket-lt, bucket-short}
-use Rattle.leap.specs.Count.{bump, counted}
+use Rattle.leap.specs.Count.{bumpBy, bump, counted}
 use Rattle.generate.specs.declared.State.{State}
 use Rattle.generate.specs.Feed.{fresh, filled, slid, step, feed}
 use Rattle.generate.proofs.Step.{by-step, feed-keeps}
@@ -32,7 +32,7 @@ at-most-sum (x ∷ cs) (suc i) = omega (arith, at-most-sum cs i)
 
 -- one more at a counter is one more in the sum, less 2^32 where the counter rolls over
 bump-sum : (cs : List ℕ) (i : ℕ) → i < length cs → sum (bump cs i) + 2 ^ 32 * ((getD cs i 0 + 1) / 2 ^ 32) ≡ sum cs + 1
-unfolding bump
+unfolding bumpBy
 bump-sum cs i h = omega (arith, sum-set cs i ((getD cs i 0 + 1) % 2 ^ 32) h)
 
 -- the counters cs of a variant v, to which one was added n times
@@ -45,14 +45,14 @@ pub record Tallied (v : ℕ) (cs : List ℕ) (n : ℕ) : Type 0 where
 
 -- a bumped counter is below 2^32, and so is every other
 small-by : (cs : List ℕ) (i j : ℕ) → i < length cs → getD cs j 0 < 2 ^ 32 → Dec (j ≡ i) → getD (bump cs i) j 0 < 2 ^ 32
-unfolding bump
+unfolding bumpBy
 small-by cs i j h k (yes e) = rw (e, getD-set-same cs i ((getD cs i 0 + 1) % 2 ^ 32) 0 h) (omega arith)
 small-by cs i j h k (no n) = rw (getD-set-other cs i j ((getD cs i 0 + 1) % 2 ^ 32) 0 n) k
 
 -- one more at a counter that the variant counts adds one to the tally
 bump-tallied : (v : ℕ) {cs : List ℕ} {n : ℕ} (i : ℕ) → i < 256 → (v ≡ 48 → i < 49) → Tallied v cs n
     → Tallied v (bump cs i) (n + 1)
-unfolding bump
+unfolding bumpBy
 bump-tallied v {cs} {n} i h u t =
     let b = bump-sum cs i (omega (arith, t .wide)) in
     record {

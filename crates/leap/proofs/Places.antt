@@ -14,15 +14,10 @@ use lib.Bits.{bitXor}
 use Rattle.pearson.specs.Table.{table}
 use Rattle.pearson.specs.Mapping.{own, after, lasts}
 use Rattle.pearson.proofs.Values.{lasts-own}
-use Rattle.leap.specs.Count.{bump}
-use Rattle.leap.specs.Places.{bumpBy, spread, counts, Small, Marked}
+use Rattle.leap.specs.Count.{bumpBy, bump}
+use Rattle.leap.specs.Places.{spread, counts, Small, Marked}
 
--- the rolled-over sum stored at a counter is one more at it
-pub bumped : (cs : List ℕ) (i x : ℕ) → x ≡ (getD cs i 0 + 1) % 2 ^ 32 → set cs i x ≡ bump cs i
-unfolding bump
-bumped cs i x e = rw e
-
--- and so with some more
+-- the rolled-over sum stored at a counter is so many more at it
 pub bumped-by : (cs : List ℕ) (i k x : ℕ) → x ≡ (getD cs i 0 + k) % 2 ^ 32 → set cs i x ≡ bumpBy cs i k
 unfolding bumpBy
 bumped-by cs i k x e = rw e
@@ -67,7 +62,7 @@ spread-add cs (r ∷ rs) (f ∷ fs) i k =
 -- one more at a place, spread, is one more at the counter that the table names at that place
 pub spread-bump : (cs rs fs : List ℕ) (z : ℕ) → z < length rs → z < length fs
     → spread cs (bump rs z) fs ≡ bump (spread cs rs fs) (getD fs z 0)
-unfolding spread bump bumpBy
+unfolding spread bumpBy
 spread-bump cs [] fs z h g = absurd (not-suc-le-zero h)
 spread-bump cs (r ∷ rs) [] z h g = absurd (not-suc-le-zero g)
 spread-bump cs (r ∷ rs) (f ∷ fs) zero h g =
@@ -81,7 +76,7 @@ lasts-wide v ls e = rw e (length-map table (own v))
 
 -- one more at a place leaves the number of places
 length-bump : (rs : List ℕ) (z : ℕ) → length (bump rs z) ≡ length rs
-unfolding bump
+unfolding bumpBy
 length-bump rs z = length-set rs z _
 
 -- one more at the place that a state and two bytes lead to

@@ -9,9 +9,13 @@ use Rattle.pearson.specs.Mapping.{bucket}
 unfoldable pub checked : ℕ → ℕ → ℕ → ℕ → ℕ
 checked v c b4 b3 = bucket v 0 b4 b3 c
 
--- one more at the counter i, which rolls over from 4,294,967,295 to 0
-unfoldable pub bump : List ℕ → ℕ → List ℕ
-bump cs i = set cs i ((getD cs i 0 + 1) % 2 ^ 32)
+-- k more at the counter i, which rolls over from 4,294,967,295 to 0
+unfoldable pub bumpBy : List ℕ → ℕ → ℕ → List ℕ
+bumpBy cs i k = set cs i ((getD cs i 0 + k) % 2 ^ 32)
+
+-- one more
+abbrev pub bump : List ℕ → ℕ → List ℕ
+bump cs i = bumpBy cs i 1
 
 -- one more for each of the six mappings of a byte b4, with b3, b2, b1, b0 before it, b3 nearest
 unfoldable pub counted : ℕ → List ℕ → ℕ → ℕ → ℕ → ℕ → ℕ → List ℕ

@@ -9,12 +9,8 @@ use Rattle.pearson.specs.Table.{table}
 use Rattle.pearson.specs.Mapping.{own, after, lasts}
 use Rattle.pearson.specs.Steps.{steps}
 use Rattle.leap.specs.declared.Window.{Window}
-use Rattle.leap.specs.Count.{bump}
+use Rattle.leap.specs.Count.{bumpBy, bump}
 use Rattle.leap.specs.Window.{moves, hits}
-
--- k more at the counter i, which rolls over
-unfoldable pub bumpBy : List ℕ → ℕ → ℕ → List ℕ
-bumpBy cs i k = set cs i ((getD cs i 0 + k) % 2 ^ 32)
 
 -- each number of rs more at the counter that fs names at its place
 unfoldable pub spread : List ℕ → List ℕ → List ℕ → List ℕ

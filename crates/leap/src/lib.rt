@@ -13,9 +13,9 @@ ghost use mathlib.Core.List.{_∷_, []};
 ghost use Prim.Native.Nat.{_%_};
 ghost use lib.ListN.{length};
 ghost use Rattle.pearson.specs.Table.{table};
-ghost use Rattle.leap.specs.Count.{bump};
+ghost use Rattle.leap.specs.Count.{bumpBy, bump};
 ghost use Rattle.leap.specs.Window.{Ran, fours};
-ghost use Rattle.leap.specs.Places.{bumpBy, spread, Small, Lent, Marked, Scanned};
+ghost use Rattle.leap.specs.Places.{spread, Small, Lent, Marked, Scanned};
 
 // What the loop carries beside the counters: the checksum, and the tail byte by byte, b3 the nearest.
 pub struct Window {
@@ -26,13 +26,20 @@ pub struct Window {
     pub b3: u8,
 }
 
+// Some more at a counter, which rolls over.
+fn increment_by(counters: &mut [u32; 256], at: u8, k: u32)
+    ensures { λ _. ⌜ now (counters .exit) ≡ bumpBy (now (counters .entry)) at k ⌝ }
+{
+    let i = at as usize;
+    let old = counters[i];
+    counters[i] = std::num::wrapping_add_u32(old, k);
+}
+
 // One more at a counter, which rolls over.
 pub fn increment(counters: &mut [u32; 256], at: u8)
     ensures { λ _. ⌜ now (counters .exit) ≡ bump (now (counters .entry)) at ⌝ }
 {
-    let i = at as usize;
-    let old = counters[i];
-    counters[i] = std::num::wrapping_add_u32(old, 1);
+    increment_by(counters, at, 1);
 }
 
 // One more at the place of the last table that a state and two bytes lead to.
@@ -150,15 +157,6 @@ fn scan(
         i += 4;
     }
     next
-}
-
-// Some more at a counter, which rolls over.
-fn increment_by(counters: &mut [u32; 256], at: u8, k: u32)
-    ensures { λ _. ⌜ now (counters .exit) ≡ bumpBy (now (counters .entry)) at k ⌝ }
-{
-    let i = at as usize;
-    let old = counters[i];
-    counters[i] = std::num::wrapping_add_u32(old, k);
 }
 
 // The last lookup of all places at once: each place's number more at the counter that the last table names there.
