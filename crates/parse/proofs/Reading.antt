@@ -268,7 +268,8 @@ module _ (t : List ℕ) (m : ℕ) (long : length t ≡ 6 + 2 * m) where
         long = rw (q, length-sets) (p .long);
         holds =
             block-cases at i last
-            (λ (x : ℕ). l ≡ take (x + 8) bytes ++ replicate (64 - (x + 8)) 0 → l ≡ take (i + 8) bytes ++ replicate (64 - length (take (i + 8) bytes)) 0) e
+            (λ (x : ℕ). l ≡ take (x + 8) bytes ++ replicate (64 - (x + 8)) 0
+            → l ≡ take (i + 8) bytes ++ replicate (64 - length (take (i + 8) bytes)) 0) e
             (λ (z : i < last). λ (d : l ≡ take (i + 8) bytes ++ replicate (64 - (i + 8)) 0).
             rw (length-take-le (i + 8) bytes (omega arith)) d)
             (λ (z : last ≤ i). λ (d : l ≡ take (last + 8) bytes ++ replicate (64 - (last + 8)) 0).

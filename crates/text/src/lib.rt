@@ -133,7 +133,8 @@ fn rows_of(body: &[u8; 64], m: usize) -> Rows
 // Stores m digits of two rows in turn, from place 8 on.
 fn put_pairs(destination: &mut [u8], high: &[u8; 64], low: &[u8; 64], m: usize)
     requires { ⌜ (m ≤ 64) × (length (now high) ≡ 64) × (length (now low) ≡ 64) × (8 + 2 * m ≤ length (now destination)) ⌝ }
-    ensures { λ _. ⌜ now (destination .exit) ≡ sets (now (destination .entry)) 8 (inTurn (take m (now (high .entry))) (take m (now (low .entry)))) ⌝ }
+    ensures { λ _. ⌜ now (destination .exit)
+        ≡ sets (now (destination .entry)) 8 (inTurn (take m (now (high .entry))) (take m (now (low .entry)))) ⌝ }
 {
     let mut i = 0;
     while i < m {

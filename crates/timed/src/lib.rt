@@ -15,7 +15,16 @@ pub extern "C" fn saltcurtain_timed_write(
     body: &[u8; 64],
     destination: &mut [u8],
 ) -> u32
-    ensures { λ r. ⌜ Written r (now (destination .exit)) (writeOf (record { body = now (body .entry); variant = variant; checksum = checksum; «length_code» = «length_code»; ratios = ratios }) (now (destination .entry))) ⌝ }
+    ensures { λ r. ⌜ Written r (now (destination .exit))
+        (writeOf
+        (record {
+          body = now (body .entry);
+          variant = variant;
+          checksum = checksum;
+          «length_code» = «length_code»;
+          ratios = ratios;
+        })
+        (now (destination .entry))) ⌝ }
 {
     text::write_text(
         Digest {
