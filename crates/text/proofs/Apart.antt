@@ -8,7 +8,8 @@ use native.Mathlib.Omega.{arith}
 use lib.ListN.{length, getD, set, take, replicate, length-map, length-set}
 use lib.Seq.{sets, length-sets, take-suc, length-take-le, set-at, append-snoc, take-at}
 use Rattle.text.specs.declared.Rows.{Rows}
-use Rattle.text.specs.Text.{digitOf, bodyText, rowsOf, inTurn}
+use Rattle.text.specs.Text.{digitOf, bodyText}
+use Rattle.text.specs.Apart.{rowsOf, inTurn}
 use Rattle.text.proofs.Writing.{sets-append}
 
 -- a function of each of two rows' entries is that of the first row's, and then that of the second's

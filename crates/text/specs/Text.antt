@@ -1,15 +1,14 @@
 -- The text of a digest, and what writing it answers and leaves (document 01, Text and Numbers for every answer).
 -- Assumes nothing.
 use mathlib.Core.Bool.{cond, not}
-use mathlib.Core.List.{List, [], _∷_, _++_, map}
+use mathlib.Core.List.{List, [], _∷_, _++_}
 use mathlib.Core.Path.{_≡_}
-use Prim.Native.Nat.{ℕ, _+_, _-_, _*_, _/_, _%_}
+use Prim.Native.Nat.{ℕ, _+_, _*_, _/_, _%_}
 use lib.Dec.{ltb}
-use lib.ListN.{length, take, drop, replicate}
+use lib.ListN.{length, take, drop}
 use Rattle.params.specs.Variants.{known}
 use Rattle.params.specs.Answers.{done, unknownVariant, shortDestination}
 use Rattle.hash.specs.declared.Digest.{Digest}
-use Rattle.text.specs.declared.Rows.{Rows}
 use Rattle.text.specs.declared.SizeAnswer.{SizeAnswer}
 use Rattle.body.specs.Body.{bytesOf}
 
@@ -33,20 +32,6 @@ headText checksum lengthCode ratios = (84 ∷ 49 ∷ []) ++ lowFirst checksum ++
 abbrev pub bodyText : List ℕ → List ℕ
 bodyText [] = []
 bodyText (b ∷ bs) = highFirst b ++ bodyText bs
-
--- the digits of a row of bytes, the high ones apart from the low ones, each with 0 up to 64
-unfoldable pub rowsOf : List ℕ → Rows
-rowsOf bs =
-    record {
-      high = map (λ (b : ℕ). digitOf (b / 16)) bs ++ replicate (64 - length bs) 0;
-      low = map (λ (b : ℕ). digitOf (b % 16)) bs ++ replicate (64 - length bs) 0;
-    }
-
--- two rows in turn
-abbrev pub inTurn : List ℕ → List ℕ → List ℕ
-inTurn [] ys = []
-inTurn (x ∷ xs) [] = []
-inTurn (x ∷ xs) (y ∷ ys) = x ∷ y ∷ inTurn xs ys
 
 -- the text: the head, and then the used bytes of the body
 unfoldable pub textOf : Digest → List ℕ

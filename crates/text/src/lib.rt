@@ -12,7 +12,8 @@ ghost use lib.ListN.{length, take};
 ghost use lib.Seq.{sets};
 ghost use Rattle.params.specs.Variants.{known};
 ghost use Rattle.body.specs.Body.{bytesOf};
-ghost use Rattle.text.specs.Text.{sizeOf, digitOf, headText, bodyText, rowsOf, inTurn, Written, writeOf};
+ghost use Rattle.text.specs.Text.{sizeOf, digitOf, headText, bodyText, Written, writeOf};
+ghost use Rattle.text.specs.Apart.{rowsOf, inTurn};
 use hash::Digest;
 
 // The number of the answer, and the size of a text, 0 beside a refusal.
