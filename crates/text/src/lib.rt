@@ -61,6 +61,7 @@ fn digit_of(n: u8) -> u8
 }
 
 // Two digits as one number, the first in its low byte. A half past 9 carries once 6 is added, and then skips the characters before A.
+// 1,542 is 6 in each of the two bytes, 12,336 is 48 in each, and 7 times `past` is 7 in each that skips.
 fn pair_of(first: u8, second: u8) -> u32
     requires { ⌜ (first < 16) × (second < 16) ⌝ }
     ensures { λ r. ⌜ r ≡ digitOf first + 256 * digitOf second ⌝ }

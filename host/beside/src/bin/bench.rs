@@ -1,8 +1,9 @@
 //! `bench`: the port, the Rust and the C++ in one process, in turns, on the same inputs.
 //!
-//! `bench run [PART]` prints a line for each workload (whose name has that part): its name, the bytes of a call, and the nanoseconds of a call for each side, each the
-//! median of several turns. They are the thread's own time, so that what else runs on the machine disturbs little. `bench summary`
-//! reads such lines of several processes and prints medians and ratios. bench.sh does both.
+//! `bench run [PART]` prints a line for each workload, or for those whose names have that part: its name, the bytes of a call, and
+//! the nanoseconds of a call for each side, each the median of several turns. They are the thread's own time, so that what else runs
+//! on the machine disturbs little. `bench summary` reads such lines of several processes and prints medians and ratios. bench.sh
+//! does both.
 //!
 //! What is warm and what is cleared: each input is made and read before it is measured. Inputs to 64 KiB are digested again and
 //! again, so they are in the nearest caches; 16 MiB and the nine thousand reports (36 MB) are read from front to end each time, so
@@ -77,16 +78,17 @@ fn median(mut of: Vec<f64>) -> f64 {
     if of.len() % 2 == 1 { of[half] } else { (of[half - 1] + of[half]) / 2.0 }
 }
 
-/// Measures a workload and prints its line, where it was asked for.
-fn work(name: &str, bytes: usize, mut sides: Vec<Side>) {
+/// Measures a workload and prints its line, where it was asked for; whether it was.
+fn work(name: &str, bytes: usize, mut sides: Vec<Side>) -> bool {
     if !name.contains(&env::args().nth(2).unwrap_or_default()) {
-        return;
+        return false;
     }
     print!("{name} {bytes}");
     for (side, time) in SIDES.iter().zip(measure(&mut sides)) {
         print!(" {side}={time:.1}");
     }
     println!();
+    true
 }
 
 /// Digests of all the inputs, one after the other. A `piece` of 0 is the one-shot digest.
@@ -128,9 +130,8 @@ fn writes(variant: Variant, text: &[u8]) {
     let (mut one, mut two) = ([0; 136], [0; 136]);
     let sides: Vec<Side> =
         vec![Box::new(|| timed::write(black_box(&port), &mut one)), Box::new(|| black_box(&rust).write_into(&mut two))];
-    work(&format!("write-{}", variant.number()), text.len(), sides);
-    for written in [one, two] {
-        assert!(written == [0; 136] || written[..text.len()] == *text);
+    if work(&format!("write-{}", variant.number()), text.len(), sides) {
+        assert!([one, two].iter().all(|written| written[..text.len()] == *text));
     }
 }
 
