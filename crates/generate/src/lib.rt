@@ -64,7 +64,7 @@ const TAIL_SIZE: u32 = 4;
 const MAX_LEN: u32 = 4_294_967_292;
 
 // Below so many bytes the plain loop is the faster one.
-const FEW: usize = 96;
+const FEW: usize = 112;
 
 // One more at the counter of the variant's mapping of four bytes.
 fn increment_at(
