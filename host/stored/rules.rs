@@ -82,7 +82,6 @@ impl fmt::Display for Line {
 
 impl Line {
     /// The line that a text says, without its line feed.
-    #[allow(dead_code, reason = "only a reader of the list asks for it")]
     pub fn parse(text: &str) -> Option<Self> {
         let words: Vec<&str> = text.split(' ').collect();
         let (&[variant, options, piece, kind, seed, length], answer) = words.split_first_chunk()?;

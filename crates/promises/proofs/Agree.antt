@@ -1,9 +1,11 @@
--- Demand 3 for whole digests: with all other options equal, both ratio paths give the same digest or refusal within the bound.
+-- Demand 3 for whole digests: with all other options equal, both ratio paths give the same digest or refusal within the farther bound, and
+-- so within the bound.
 -- Assumes nothing.
 use mathlib.Core.Path.{_≡_, refl, sym, _∙_, ap}
 use mathlib.Core.Bool.{Bool, true, false}
 use mathlib.Core.List.{List}
 use Prim.Native.Nat.{ℕ, _+_, _/_, _%_, _≤_, _<_}
+use native.Mathlib.Nat.{le-trans}
 use native.Mathlib.Omega.{arith}
 use native.Mathlib.Decide.{decLt}
 use lib.Dec.{eqb}
@@ -13,7 +15,7 @@ use Rattle.params.specs.Variants.{known}
 use Rattle.length.specs.Code.{coded}
 use Rattle.quartile.specs.declared.Quartiles.{Quartiles}
 use Rattle.quartile.specs.Quartile.{quartiles}
-use Rattle.qratios.specs.Demands.{lightThird}
+use Rattle.qratios.specs.Demands.{agreeingThird}
 use Rattle.qratios.proofs.Demands.{ratios-agree}
 use Rattle.generate.specs.declared.State.{State}
 use Rattle.generate.specs.Feed.{fresh, feed}
@@ -22,30 +24,34 @@ use Rattle.generate.proofs.Reached.{variant-stays}
 use Rattle.options.specs.declared.Options.{Options}
 use Rattle.options.specs.Options.{flags, has, chosen}
 use Rattle.finalize.specs.declared.Finalized.{Finalized}
-use Rattle.finalize.specs.Final.{counts, isTooSmall, isThreeQuarterEmpty, isHalfEmpty, replaced, digestBy, distributed, classed, measured, lengthed, finalizedWith, finalizedBy, finalized, digestOf}
+use Rattle.finalize.specs.Final.{counts, isTooSmall, isThreeQuarterEmpty, isHalfEmpty, replaced, digestBy, distributed, classed, measured}
+use Rattle.finalize.specs.Final.{lengthed, finalizedWith, finalizedBy, finalized, digestOf}
 use Rattle.finalize.proofs.Laws.{replaced-ordered}
-use Rattle.promises.specs.Demands.{bound, PathsAgree, NumbersAgree}
-use Rattle.promises.proofs.Third.{Light, third-light, light-fed}
+use Rattle.promises.specs.Demands.{farBound, PathsAgree, NumbersAgree, PathsAgreeFarther, NumbersAgreeFarther}
+use Rattle.promises.proofs.Third.{bound-within, third-agreeing}
 
--- a light third quartile stays light where all three become 1
-replaced-light : (q : Quartiles) (b : Bool) → eqb (q .q3) 0 ≡ b → q .q3 ≤ lightThird → replaced q .q3 ≤ lightThird
+-- a third quartile of at most 262,146 stays one where all three become 1
+replaced-agreeing : (q : Quartiles) (b : Bool) → eqb (q .q3) 0 ≡ b → q .q3 ≤ agreeingThird → replaced q .q3 ≤ agreeingThird
 unfolding replaced
-replaced-light q true e h = rw e (omega arith)
-replaced-light q false e h = rw e h
+replaced-agreeing q true e h = rw e (omega arith)
+replaced-agreeing q false e h = rw e h
 
--- a light third quartile makes one record by both paths
-records-agree : (used : List ℕ) (v checksum code : ℕ) → quartiles used .q3 ≤ lightThird
+-- such a third quartile makes one record by both paths
+records-agree : (used : List ℕ) (v checksum code : ℕ) → quartiles used .q3 ≤ agreeingThird
     → digestBy (replaced (quartiles used)) used v checksum code false ≡ digestBy (replaced (quartiles used)) used v checksum code true
 unfolding digestBy
 records-agree used v checksum code h =
     let q = replaced (quartiles used) in
     let o = replaced-ordered used (quartiles used) q refl refl in
-    rw (ratios-agree (q .q1) (q .q2) (q .q3) o (replaced-light (quartiles used) (eqb (quartiles used .q3) 0) refl h))
+    rw (ratios-agree (q .q1) (q .q2) (q .q3) o (replaced-agreeing (quartiles used) (eqb (quartiles used .q3) 0) refl h))
 
 -- the tests do not see the ratio flag, so the steps agree where the records do
 steps-agree : (a : LengthAnswer) (t : State) (c s h q : Bool)
-    → ((code : ℕ) → digestBy (replaced (quartiles (take (t .variant) (t .counters)))) (take (t .variant) (t .counters)) (t .variant) (t .checksum) code false
-    ≡ digestBy (replaced (quartiles (take (t .variant) (t .counters)))) (take (t .variant) (t .counters)) (t .variant) (t .checksum) code true)
+    → ((code : ℕ)
+    → digestBy (replaced (quartiles (take (t .variant) (t .counters)))) (take (t .variant) (t .counters)) (t .variant) (t .checksum) code
+    false
+    ≡ digestBy (replaced (quartiles (take (t .variant) (t .counters)))) (take (t .variant) (t .counters)) (t .variant) (t .checksum) code
+    true)
     → lengthed a t (flags c false s h q) ≡ lengthed a t (flags c true s h q)
 unfolding lengthed measured classed distributed isTooSmall isThreeQuarterEmpty isHalfEmpty
 steps-agree a t c s h q e = rw (e (coded (counts a) .code))
@@ -58,18 +64,23 @@ unfolding processed lengthed
 given-by t true e c s h q m = m e
 given-by t false e c s h q m = rw e
 
--- for any state whose counters are light for an n up to the variant's bound
-pub state-agrees : (t : State) (n : ℕ) (c s h q : Bool) → Light (t .counters) n → n ≤ bound (t .variant)
+-- for any state whose third quartile is at most 262,146, however long its input was
+pub state-agrees : (t : State) (c s h q : Bool)
+    → (known (t .variant) ≡ true → quartiles (take (t .variant) (t .counters)) .q3 ≤ agreeingThird)
     → finalizedWith t (flags c false s h q) ≡ finalizedWith t (flags c true s h q)
 unfolding finalizedWith
-state-agrees t n c s h q l b =
+state-agrees t c s h q m =
     given-by t (known (t .variant)) refl c s h q (λ k. steps-agree (processed t) t c s h q (λ code.
-    records-agree (take (t .variant) (t .counters)) (t .variant) (t .checksum) code (third-light (t .counters) n (t .variant) k l b)))
+    records-agree (take (t .variant) (t .counters)) (t .variant) (t .checksum) code (m k)))
 
--- Demand 3
+-- within the farther bound
+pub paths-agree-farther : PathsAgreeFarther
+paths-agree-farther v bytes c s h q b =
+    state-agrees (feed bytes (fresh v)) c s h q (rw (variant-stays v bytes) (λ k. third-agreeing v bytes k b))
+
+-- Demand 3: within the bound
 pub paths-agree : PathsAgree
-paths-agree v bytes c s h q b =
-    state-agrees (feed bytes (fresh v)) (length bytes) c s h q (light-fed v bytes b) (rw (variant-stays v bytes) b)
+paths-agree v bytes c s h q b = paths-agree-farther v bytes c s h q (le-trans b (bound-within v))
 
 -- ---- by option numbers
 
@@ -95,7 +106,8 @@ by-sixteen k = omega arith
 
 -- adding 2 to a number that lacks the ratio flag sets it and leaves the others
 pub flags-raised : (n : ℕ) → has 2 n ≡ false
-    → flags (has 1 (n + 2)) (has 2 (n + 2)) (has 4 (n + 2)) (has 8 (n + 2)) (has 16 (n + 2)) ≡ flags (has 1 n) true (has 4 n) (has 8 n) (has 16 n)
+    → flags (has 1 (n + 2)) (has 2 (n + 2)) (has 4 (n + 2)) (has 8 (n + 2)) (has 16 (n + 2))
+    ≡ flags (has 1 n) true (has 4 n) (has 8 n) (has 16 n)
 flags-raised n f =
     let e : n / 2 % 2 ≡ 0 = even (n / 2) f in
     let a : (n + 2) / 1 % 2 ≡ n / 1 % 2 = omega arith in
@@ -107,12 +119,16 @@ flags-raised n f =
     rw (a, b, c, d, g)
 
 -- above 31 both are refused; with bit 2 clear and at most 31, so is the number that has it set
-numbers-by : (v n : ℕ) (bytes : List ℕ) → has 2 n ≡ false → length bytes ≤ bound v → Dec (31 < n) → digestOf v n bytes ≡ digestOf v (n + 2) bytes
+numbers-by : (v n : ℕ) (bytes : List ℕ) → has 2 n ≡ false → length bytes ≤ farBound v → Dec (31 < n)
+    → digestOf v n bytes ≡ digestOf v (n + 2) bytes
 unfolding digestOf finalized finalizedBy chosen
 numbers-by v n bytes f b (yes l) = rw (lt-ltb 31 n l, lt-ltb 31 (n + 2) (omega arith))
 numbers-by v n bytes f b (no l) =
     rw (le-ltb 31 n (omega arith), le-ltb 31 (n + 2) (omega (arith, even (n / 2) f)), flags-raised n f, f)
-    (paths-agree v bytes (has 1 n) (has 4 n) (has 8 n) (has 16 n) b)
+    (paths-agree-farther v bytes (has 1 n) (has 4 n) (has 8 n) (has 16 n) b)
+
+pub numbers-agree-farther : NumbersAgreeFarther
+numbers-agree-farther v n bytes f b = numbers-by v n bytes f b (decLt 31 n)
 
 pub numbers-agree : NumbersAgree
-numbers-agree v n bytes f b = numbers-by v n bytes f b (decLt 31 n)
+numbers-agree v n bytes f b = numbers-agree-farther v n bytes f (le-trans b (bound-within v))

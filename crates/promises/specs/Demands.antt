@@ -1,16 +1,18 @@
 -- What is promised of whole digests, as statements: when the two ratio paths agree, that a cutting does not matter, and which number an
 -- input gets.
 -- Assumes nothing.
-use Prim.Native.Nat.{ℕ, _+_, _≤_, _<_}
+use Prim.Native.Nat.{ℕ, _+_, _-_, _*_, _≤_, _<_}
 use mathlib.Core.Bool.{Bool, true, false, cond, not}
 use mathlib.Core.List.{List}
 use mathlib.Core.Path.{_≡_}
 use lib.Dec.{ltb, eqb}
 use lib.ListN.{length, take}
+use Rattle.params.specs.Words.{sum}
 use Rattle.params.specs.Variants.{known}
 use Rattle.params.specs.Answers.{done, tooLargeInput, tooSmallInput, threeQuarterEmpty, halfEmpty, unknownVariant, unknownOption}
 use Rattle.length.specs.Limits.{maximum}
 use Rattle.quartile.specs.Quartile.{quartiles}
+use Rattle.qratios.specs.Demands.{lightThird, agreeingThird}
 use Rattle.hash.specs.Digest.{zeroDigest}
 use Rattle.generate.specs.declared.State.{State}
 use Rattle.generate.specs.Feed.{fresh, feed}
@@ -22,18 +24,48 @@ use Rattle.finalize.specs.Final.{isTooSmall, isThreeQuarterEmpty, isHalfEmpty, 
 
 -- ---- when the two builds agree
 
--- the longest input of a variant for which both ratio paths give one answer
+-- the bound of Demand 3: up to this length the counting below shows a third quartile of at most 167,772
 unfoldable pub bound : ℕ → ℕ
 bound v = cond (eqb v 48) 363_512 (cond (eqb v 128) 922_755 1_817_544)
 
--- Demand 3: for every input within the bound, options that differ in the ratio flag alone give the same digest or the same refusal
-abbrev pub PathsAgree : Type 0
-PathsAgree = (v : ℕ) (bytes : List ℕ) (c s h q : Bool) → length bytes ≤ bound v
+-- the farther bound: up to this length the counting shows one of at most 262,146, the largest up to which both ratio paths agree
+unfoldable pub farBound : ℕ → ℕ
+farBound v = cond (eqb v 48) 567_989 (cond (eqb v 128) 1_441_812 2_839_929)
+
+-- the counting: 256 counters whose sum is at most what n bytes give have a third quartile of at most t, for every n within b
+abbrev pub Counted : (ℕ → ℕ) → ℕ → Type 0
+Counted b t = (v n : ℕ) (counters : List ℕ) → known v ≡ true → length counters ≡ 256 → sum counters ≤ 6 * (n - 4) → n ≤ b v
+    → quartiles (take v counters) .q3 ≤ t
+
+-- it holds at both bounds
+abbrev pub BoundCounted : Type 0
+BoundCounted = Counted bound lightThird
+
+abbrev pub FarBoundCounted : Type 0
+FarBoundCounted = Counted farBound agreeingThird
+
+-- for every input within b, options that differ in the ratio flag alone give the same digest or the same refusal
+abbrev pub PathsAgreeWithin : (ℕ → ℕ) → Type 0
+PathsAgreeWithin b = (v : ℕ) (bytes : List ℕ) (c s h q : Bool) → length bytes ≤ b v
     → finalizedWith (feed bytes (fresh v)) (flags c false s h q) ≡ finalizedWith (feed bytes (fresh v)) (flags c true s h q)
 
 -- the same of option numbers: 2 is the ratio flag
+abbrev pub NumbersAgreeWithin : (ℕ → ℕ) → Type 0
+NumbersAgreeWithin b = (v n : ℕ) (bytes : List ℕ) → has 2 n ≡ false → length bytes ≤ b v → digestOf v n bytes ≡ digestOf v (n + 2) bytes
+
+-- Demand 3
+abbrev pub PathsAgree : Type 0
+PathsAgree = PathsAgreeWithin bound
+
 abbrev pub NumbersAgree : Type 0
-NumbersAgree = (v n : ℕ) (bytes : List ℕ) → has 2 n ≡ false → length bytes ≤ bound v → digestOf v n bytes ≡ digestOf v (n + 2) bytes
+NumbersAgree = NumbersAgreeWithin bound
+
+-- both hold farther
+abbrev pub PathsAgreeFarther : Type 0
+PathsAgreeFarther = PathsAgreeWithin farBound
+
+abbrev pub NumbersAgreeFarther : Type 0
+NumbersAgreeFarther = NumbersAgreeWithin farBound
 
 -- ---- cutting
 

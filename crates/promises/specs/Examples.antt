@@ -27,9 +27,9 @@ examples =
     -- the quotient for q 1 and q3 1, both ways, and its ratio; and for q3 2
     record { asked = integerWhole 1 1 ∷ floatingWhole 1 1 ∷ ratioBy true 1 1 ∷ ratioBy false 1 1 ∷ []; answer = 100 ∷ 100 ∷ 4 ∷ 4 ∷ [] } ∷
     record { asked = integerWhole 1 2 ∷ floatingWhole 1 2 ∷ ratioBy true 1 2 ∷ ratioBy false 1 2 ∷ []; answer = 50 ∷ 50 ∷ 2 ∷ 2 ∷ [] } ∷
-    -- the largest third quartile at which both paths are promised to agree
+    -- the largest third quartile whose product by 100 is below 2 ^ 24
     record { asked = integerWhole 167_772 167_772 ∷ floatingWhole 167_772 167_772 ∷ []; answer = 100 ∷ 100 ∷ [] } ∷
-    -- beyond it they differ: here 100 * q is 99 * q3 less one, and the quotient rounds up. Demand 3 needs its bound on q3
+    -- beyond 262,146 they may differ: here 100 * q is 99 * q3 less one, and the quotient rounds up. Demand 3 needs a bound on q3
     record { asked = integerWhole 297_098 300_099 ∷ floatingWhole 297_098 300_099 ∷ []; answer = 98 ∷ 99 ∷ [] } ∷
     -- one above 42,949,672 the product by 100 rolls over in 32 bits, and they are not even within one
     record { asked = integerWhole 42_949_673 42_949_673 ∷ floatingWhole 42_949_673 42_949_673 ∷ []; answer = 100 ∷ 0 ∷ [] } ∷

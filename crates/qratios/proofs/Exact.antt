@@ -56,7 +56,7 @@ module _ (a b n d : ℕ) (B : 0 < b) (D : 0 < d) (small : n < 16777216) (most : 
 
   module _ (x : Single) (h : Shape a b x) where
     -- the whole part, before the carry
-    whole-is : whole x ≡ h .s * 2 ^ h .u / 2 ^ h .v
+    pub whole-is : whole x ≡ h .s * 2 ^ h .u / 2 ^ h .v
     whole-is = div-same (top x) (bottom x) (h .s * 2 ^ h .u) (2 ^ h .v) (pow-pos (x .over)) (pow-pos (h .v)) (carries a b x h .value)
 
     -- it is at most that of n / d
@@ -69,7 +69,7 @@ module _ (a b n d : ℕ) (B : 0 < b) (D : 0 < d) (small : n < 16777216) (most : 
             (high-half (h .s) (2 ^ h .u) (2 ^ h .v) (near a b x h B .0)) (below-next n d D)
 
     -- n below 2 ^ 24 needs no halving
-    no-halving : 2 ^ h .u ≡ 1
+    pub no-halving : 2 ^ h .u ≡ 1
     no-halving = elim (h .one-side) [
       | inl z ↦ rw z
       | inr z ↦
@@ -92,7 +92,7 @@ module _ (a b n d : ℕ) (B : 0 < b) (D : 0 < d) (small : n < 16777216) (most : 
 -- ---- whole numbers
 
 -- one below 2 ^ 24 is such a number itself
-exact : (n : ℕ) (x : Single) → Shape n 1 x → n < 16777216 → top x ≡ n * bottom x
+pub exact : (n : ℕ) (x : Single) → Shape n 1 x → n < 16777216 → top x ≡ n * bottom x
 exact n x h small =
     let p = 2 ^ h .v in
     let e : 2 ^ h .u ≡ 1 = no-halving n 1 n 1 (lit< tt) (lit< tt) small (le-refl (n * 1)) x h in
@@ -120,7 +120,18 @@ large n x h big =
     let l : 16777216 * p * bottom x ≤ h .s * q * bottom x = mul-le-mul-right (bottom x) g in
     le-of-mul-le-mul-right (rw (carries n 1 x h .value, mul-right-comm 16777216 (bottom x) p) l) (pow-pos (h .v))
 
--- ---- the quotient of p and r, for a p below 2 ^ 24
+-- ---- the quotient of p and r
+
+-- where both are exact, it is no less than the whole part of p / r
+pub no-less : (p r : ℕ) (a b : Single) → top a ≡ p * bottom a → top b ≡ r * bottom b → p / r * (top b * bottom a) ≤ top a * bottom b
+no-less p r a b p-is r-is =
+    let m = mul-le-mul-right (bottom a * bottom b) (div-mul-le-self p r) in
+    rw (p-is, r-is) (rw (arrange (p / r) r (bottom a) (bottom b), mul-assoc p (bottom a) (bottom b)) m)
+  where
+    arrange : (x y z c : ℕ) → x * (y * c * z) ≡ x * y * (z * c)
+    arrange x y z c = simp (mul-assoc, mul-comm)
+
+-- for a p below 2 ^ 24 its whole part is that of p / r
 exact-quotient : (p r : ℕ) → 0 < p → p < 16777216 → 0 < r → r < 2 ^ 32 → whole (divided (single p 1) (single r 1)) ≡ p / r
 exact-quotient p r P small R r-lt = go (below-or-not r 16777216)
   where
@@ -148,9 +159,6 @@ exact-quotient p r P small R r-lt = go (below-or-not r 16777216)
     p-is : top a ≡ p * bottom a
     p-is = exact p a (shape-whole p P (omega arith)) small
 
-    arrange : (x y z c : ℕ) → x * (y * c * z) ≡ x * y * (z * c)
-    arrange x y z c = simp (mul-assoc, mul-comm, mul-left-comm)
-
     regroup : (x y z c : ℕ) → x * y * z * c ≡ x * y * (c * z)
     regroup x y z c = mul-assoc (x * y) z c ∙ ap (λ w. x * y * w) (mul-comm z c)
 
@@ -163,19 +171,23 @@ exact-quotient p r P small R r-lt = go (below-or-not r 16777216)
     go (inl l) =
         let r-is : top b ≡ r * bottom b = exact r b k l in
         let c : A * r ≡ p * B = rw (p-is, r-is) (simp (mul-assoc, mul-comm, mul-left-comm)) in
-        let m = mul-le-mul-right (bottom a * bottom b) (div-mul-le-self p r) in
-        let g : p / r * B ≤ A = rw (p-is, r-is) (rw (arrange (p / r) r (bottom a) (bottom b), mul-assoc p (bottom a) (bottom b)) m) in
         le-antisymm (whole-le A B p r B-pos R small (le-of-eq c) (divided a b) h)
-        (whole-ge A B p r B-pos R small (le-of-eq c) (divided a b) h (p / r) g)
+        (whole-ge A B p r B-pos R small (le-of-eq c) (divided a b) h (p / r) (no-less p r a b p-is r-is))
     go (inr l) =
         let z : whole (divided a b) ≤ p / 16777216 = whole-le A B p 16777216 B-pos (lit< tt) small (crossed l) (divided a b) h in
         omega (arith, div-eq-of-lt small, div-eq-of-lt (lt-of-lt-of-le small l))
 
--- ---- the two paths give one whole part where 100 * q is below 2 ^ 24
-pub exact-paths : (q q3 : ℕ) → 0 < q3 → q3 < 2 ^ 32 → 100 * q < 16777216 → floatingWhole q q3 ≡ integerWhole q q3
-exact-paths q q3 R r-lt small =
+-- ---- the two paths
+
+-- they give one whole part where the quotient's is that of 100 * q / q3; for a q of 0 it is 0
+pub paths-by : (q q3 : ℕ) → 0 < q3 → 100 * q < 2 ^ 32
+    → (0 < q → whole (divided (single (100 * q) 1) (single q3 1)) ≡ 100 * q / q3) → floatingWhole q q3 ≡ integerWhole q q3
+paths-by q q3 R small same =
     elim (eq-zero-or-pos q) [
       | inl z ↦ rw z (ap whole (quotient-zero q3) ∙ sym (div-eq-of-lt R))
-      | inr Q ↦
-          ap whole (quotient-is q q3 (100 * q) (mod-eq-of-lt (omega arith))) ∙ exact-quotient (100 * q) q3 (omega arith) small R r-lt
+      | inr Q ↦ ap whole (quotient-is q q3 (100 * q) (mod-eq-of-lt small)) ∙ same Q
     ]
+
+-- so they do where 100 * q is below 2 ^ 24
+pub exact-paths : (q q3 : ℕ) → 0 < q3 → q3 < 2 ^ 32 → 100 * q < 16777216 → floatingWhole q q3 ≡ integerWhole q q3
+exact-paths q q3 R r-lt small = paths-by q q3 R (omega arith) (λ Q. exact-quotient (100 * q) q3 (omega arith) small R r-lt)

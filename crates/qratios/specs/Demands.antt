@@ -1,6 +1,6 @@
 -- What is promised of the numbers and of the two paths, as statements (document 01, Finalizing, step 6, and The marked examples).
 -- Assumes nothing.
-use Prim.Native.Nat.{ℕ, _+_, _-_, _*_, _%_, _^_, _≤_, _<_}
+use Prim.Native.Nat.{ℕ, suc, _+_, _-_, _*_, _%_, _^_, _≤_, _<_}
 use mathlib.Core.Path.{_≡_}
 use mathlib.Core.Bool.{true, false}
 use Rattle.params.specs.Answers.{done}
@@ -49,6 +49,10 @@ exactBelow = 2 ^ 24
 abbrev pub lightThird : ℕ
 lightThird = 167_772
 
+-- the largest q3 up to which both paths give one whole part for every q of at most q3
+abbrev pub agreeingThird : ℕ
+agreeingThird = 262_146
+
 -- two numbers differ by at most one
 abbrev pub WithinOne : ℕ → ℕ → Type 0
 WithinOne a b = (a ≤ b + 1) × (b ≤ a + 1)
@@ -56,6 +60,14 @@ WithinOne a b = (a ≤ b + 1) × (b ≤ a + 1)
 -- the whole parts of the two paths are equal where 100 * q is exact
 abbrev pub PathsAgree : Type 0
 PathsAgree = (q q3 : ℕ) → 1 ≤ q3 → q3 < 2 ^ 32 → 100 * q < exactBelow → floatingWhole q q3 ≡ integerWhole q q3
+
+-- they are equal for every q of at most q3 up to that q3
+abbrev pub WholesAgree : Type 0
+WholesAgree = (q q3 : ℕ) → 1 ≤ q3 → q3 ≤ agreeingThird → q ≤ q3 → floatingWhole q q3 ≡ integerWhole q q3
+
+-- and at the next q3 they differ: 100 * 217,582 is one less than 83 * 262,147, and the quotient rounds up to 83
+abbrev pub WholesDiffer : Type 0
+WholesDiffer = (floatingWhole 217_582 (suc agreeingThird) ≡ 83) × (integerWhole 217_582 (suc agreeingThird) ≡ 82)
 
 -- the whole parts of the two paths are within one where 100 * q does not roll over
 abbrev pub PathsWithinOne : Type 0
@@ -72,6 +84,20 @@ RecordWithinOne = (q1 q2 q3 : ℕ) → q1 ≤ q2 → q2 ≤ q3 → 1 ≤ q3 → 
 abbrev pub LightIsExact : Type 0
 LightIsExact = (q q3 : ℕ) → q ≤ q3 → q3 ≤ lightThird → 100 * q < exactBelow
 
--- both paths give one byte of ratios, or one refusal, at a light q3
+-- both paths give one byte of ratios, or one refusal, up to some q3
+abbrev pub BytesAgreeUpTo : ℕ → Type 0
+BytesAgreeUpTo most = (q1 q2 q3 : ℕ) → q3 ≤ most → byteOf true q1 q2 q3 ≡ byteOf false q1 q2 q3
+
+-- they do at a light q3
 abbrev pub BytesAgree : Type 0
-BytesAgree = (q1 q2 q3 : ℕ) → q3 ≤ lightThird → byteOf true q1 q2 q3 ≡ byteOf false q1 q2 q3
+BytesAgree = BytesAgreeUpTo lightThird
+
+-- and farther, up to the largest q3 at which all whole parts agree
+abbrev pub BytesAgreeFarther : Type 0
+BytesAgreeFarther = BytesAgreeUpTo agreeingThird
+
+-- and at the next q3 the bytes differ: 82 mod 16 is 2, and 83 mod 16 is 3
+abbrev pub BytesDiffer : Type 0
+BytesDiffer =
+    (byteOf true 217_582 217_582 (suc agreeingThird) ≡ record { number = done; byte = 34 })
+    × (byteOf false 217_582 217_582 (suc agreeingThird) ≡ record { number = done; byte = 51 })

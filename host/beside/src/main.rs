@@ -1,9 +1,12 @@
 //! `beside`: the port beside the Rust and the C++. `beside help` lists what it does.
 mod compare;
+mod paths;
 mod store;
 
 use beside::inputs::{Input, Kind};
 use compare::Plan;
+use paths::{Inputs, MOST};
+use saltcurtain::Variant;
 use std::fs::File;
 use std::io::{self, BufWriter, Write};
 use std::process::ExitCode;
@@ -15,6 +18,9 @@ beside long [TIMES]             the same so many times over (20), and around all
 beside huge                     inputs at and past the greatest length, and past 2^32 bytes
 beside again SECTION JOB        one job of a comparison, as a difference names it
 beside known                    the listed differences
+beside paths                    look for the shortest input at which the ratio paths differ, in 650 pseudo-random ones
+beside paths VARIANT CHARACTERS MANY MOST
+                                the same in one variant, in so many of so many characters, up to so many bytes
 beside store FILE               write the stored list of the Rust's answers
 beside input KIND SEED LENGTH   the bytes of an input, to standard output
 
@@ -71,6 +77,16 @@ fn act() -> Result<ExitCode, String> {
         ["known"] => {
             compare::print_known();
             Ok(ExitCode::SUCCESS)
+        }
+        ["paths"] => Ok(paths::search(&Inputs { many: 10, characters: None, most: MOST }, None, plan.threads)),
+        ["paths", variant, characters, many, most] => {
+            let only = Variant::from_number(number(variant)? as u32).ok_or(format!("there is no variant {variant}"))?;
+            let inputs = Inputs {
+                many: number(many)?.min(1 << 24) as u32,
+                characters: Some(number(characters)?.clamp(1, 64) as u32),
+                most: number(most)?.min(MOST as u64) as usize,
+            };
+            Ok(paths::search(&inputs, Some(only), plan.threads))
         }
         ["store", file] => {
             let write = || store::write(&mut BufWriter::new(File::create(file)?));

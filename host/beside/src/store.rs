@@ -1,10 +1,7 @@
 //! Writes the stored list: a sample of the oracle's answers that a small program can repeat without the oracle.
-#[path = "../../stored/rules.rs"]
-mod rules;
-
 use beside::oracle::{self, Fed};
 use beside::random::Random;
-use rules::{Line, PATTERN, PIECE, Source};
+use beside::rules::{Line, PATTERN, PIECE, Source};
 use saltcurtain::Variant;
 use std::io::{self, Write};
 

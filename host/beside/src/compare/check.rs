@@ -4,7 +4,7 @@ use super::tally::Tally;
 use beside::inputs::Input;
 use beside::oracle::{self, Answer, Prefix};
 use saltcurtain::{Variant, raw};
-use std::fmt::Write;
+use std::fmt::{Display, Write};
 use tlsh::ParseError;
 
 /// Bytes before and after the destination, which must stay.
@@ -89,6 +89,17 @@ impl Call {
 
 /// The digest of `input` by the port. `rust` is what the oracle answers for a variant and options that it knows.
 pub fn digest(tally: &mut Tally, call: Call, input: &Input, rust: impl FnOnce(Variant) -> Answer) {
+    digest_of(tally, call, &input.bytes, input, rust);
+}
+
+/// The same of any bytes; `name` says how they are made.
+pub fn digest_of(
+    tally: &mut Tally,
+    call: Call,
+    bytes: &[u8],
+    name: &dyn Display,
+    rust: impl FnOnce(Variant) -> Answer,
+) {
     let Call { variant, options, piece, room } = call;
     let wanted = match Variant::from_number(variant) {
         _ if options > 31 => Err(10),
@@ -104,13 +115,11 @@ pub fn digest(tally: &mut Tally, call: Call, input: &Input, rust: impl FnOnce(Va
     if matches!(wanted, Err(10 | 6)) {
         tally.known(Known::Numbers);
     }
-    let (number, same, bytes) = call_on(room, &wanted, |destination| match piece {
-        None => raw::digest(variant, options, &input.bytes, destination),
-        Some(piece) => raw::digest_pieces(variant, options, piece, &input.bytes, destination),
+    let (number, same, left) = call_on(room, &wanted, |destination| match piece {
+        None => raw::digest(variant, options, bytes, destination),
+        Some(piece) => raw::digest_pieces(variant, options, piece, bytes, destination),
     });
-    tally.case(number, same, || {
-        said(&format!("{call:?} of the input '{input}'"), &input.bytes, &wanted, number, &bytes)
-    });
+    tally.case(number, same, || said(&format!("{call:?} of the input '{name}'"), bytes, &wanted, number, &left));
 }
 
 /// A text read and written again by the port, beside the Rust's reader narrowed to the one form.

@@ -1,6 +1,7 @@
 //! The kinds of cases. Each section is cut into jobs; what a job does depends on the seed, the section and its number alone.
 mod lengths;
 mod numbers;
+mod paths;
 mod pieces;
 mod rooms;
 mod second;
@@ -27,12 +28,18 @@ pub struct Section {
 pub const SECOND: &str = "c++";
 
 /// All sections, those with the longest jobs first.
-pub const SECTIONS: [Section; 11] = [
+pub const SECTIONS: [Section; 12] = [
     Section {
         name: "wrap",
         about: "counters so large that 100 q passes 2^32, and that both ratio paths differ",
         jobs: wrap::jobs,
         run: wrap::run,
+    },
+    Section {
+        name: "paths",
+        about: "the shortest inputs that were found at which both ratio paths differ",
+        jobs: paths::jobs,
+        run: paths::run,
     },
     Section {
         name: "tops",

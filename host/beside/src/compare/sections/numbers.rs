@@ -4,11 +4,12 @@ use crate::compare::tally::Tally;
 use beside::oracle;
 use beside::random::Random;
 
-/// Numbers at which the floating path changes: where 100 q passes 24 bits and 2^32, powers of two, and the marked examples.
+/// Numbers at which the floating path changes: where 100 q passes 24 bits and 2^32, where the paths first differ, powers of two, and the
+/// marked examples.
 #[rustfmt::skip]
-const EDGES: [u32; 22] = [
-    0, 1, 2, 3, 99, 100, 101, 167_772, 167_773, 297_098, 300_099, 693_565, 753_875, 8_388_608, 16_777_216, 33_554_432,
-    42_949_672, 42_949_673, 85_899_346, 128_849_019, 1 << 31, u32::MAX - 2,
+const EDGES: [u32; 24] = [
+    0, 1, 2, 3, 99, 100, 101, 167_772, 167_773, 217_582, 262_146, 297_098, 300_099, 693_565, 753_875, 8_388_608, 16_777_216,
+    33_554_432, 42_949_672, 42_949_673, 85_899_346, 128_849_019, 1 << 31, u32::MAX - 2,
 ];
 
 /// A number at such an edge, or up to two from it.
