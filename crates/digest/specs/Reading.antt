@@ -1,5 +1,5 @@
--- What can be promised of a program that reads: not which bytes came, but that what it holds is what some bytes come to (document 01,
--- Numbers for every answer: a program reads standard input in blocks).
+-- What can be promised of a program that reads: not which bytes came, but that what it holds is what some bytes come to (docs/RULES.md,
+-- section 8).
 -- Assumes nothing.
 use Prim.Native.Nat.{ℕ, _<_, _≤_, _^_}
 use mathlib.Core.Path.{_≡_}

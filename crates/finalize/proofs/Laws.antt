@@ -31,7 +31,8 @@ use Rattle.options.specs.declared.Options.{Options}
 use Rattle.options.specs.declared.Chosen.{Chosen}
 use Rattle.options.specs.Options.{chosen}
 use Rattle.finalize.specs.declared.Finalized.{Finalized}
-use Rattle.finalize.specs.Final.{refused, isTooLarge, isTooSmall, isThreeQuarterEmpty, replaced, leastNonZero, isHalfEmpty, digestBy, distributed, classed, measured, lengthed, finalizedWith, finalizedBy, finalized}
+use Rattle.finalize.specs.Final.{refused, isTooLarge, isTooSmall, isThreeQuarterEmpty, replaced, leastNonZero, isHalfEmpty}
+use Rattle.finalize.specs.Final.{digestBy, distributed, classed, measured, lengthed, finalizedWith, finalizedBy, finalized}
 
 -- ---- too small
 
@@ -94,7 +95,8 @@ module _ (used : List ℕ) (v : ℕ) (o : Options) where
   unfolding isHalfEmpty
   half-quarter e f = rw (e, f)
 
-  pub half-tested : (n m : ℕ) → o .half ≡ false → o .quarter ≡ false → n ≡ nonZero used → m ≡ leastNonZero v → ltb n m ≡ isHalfEmpty used v o
+  pub half-tested : (n m : ℕ) → o .half ≡ false → o .quarter ≡ false → n ≡ nonZero used → m ≡ leastNonZero v
+      → ltb n m ≡ isHalfEmpty used v o
   unfolding isHalfEmpty
   half-tested n m e f p q = rw (e, f, p, q)
 
@@ -121,7 +123,8 @@ unfolding digestBy byteOf
 digest-made q used v checksum code i r body o e f = rw (f, e, o)
 
 -- ---- steps 3 to 7
-module _ (used : List ℕ) (v checksum code : ℕ) (o : Options) (q : Quartiles) (b : Bool) (e : q ≡ quartiles used) (f : b ≡ isThreeQuarterEmpty q o) where
+module _ (used : List ℕ) (v checksum code : ℕ) (o : Options)
+    (q : Quartiles) (b : Bool) (e : q ≡ quartiles used) (f : b ≡ isThreeQuarterEmpty q o) where
   third : b ≡ isThreeQuarterEmpty (quartiles used) o
   third = f ∙ ap (λ (z : Quartiles). isThreeQuarterEmpty z o) e
 
@@ -131,12 +134,14 @@ module _ (used : List ℕ) (v checksum code : ℕ) (o : Options) (q : Quartiles)
   distributed-three r t g = rw (g, ← third, t)
 
   -- the count refuses
-  pub distributed-half : (h : Bool) (r : Finalized) → b ≡ false → h ≡ isHalfEmpty used v o → h ≡ true → r ≡ refused halfEmpty → r ≡ distributed used v checksum code o
+  pub distributed-half : (h : Bool) (r : Finalized) → b ≡ false → h ≡ isHalfEmpty used v o → h ≡ true → r ≡ refused halfEmpty
+      → r ≡ distributed used v checksum code o
   unfolding distributed
   distributed-half h r t g u k = rw (k, ← third, t, ← g, u)
 
   -- nothing refuses
-  pub distributed-done : (h : Bool) (d : Digest) (c : Quartiles) → b ≡ false → h ≡ isHalfEmpty used v o → h ≡ false → c ≡ replaced q → d ≡ digestBy c used v checksum code (o .integer)
+  pub distributed-done : (h : Bool) (d : Digest) (c : Quartiles) → b ≡ false → h ≡ isHalfEmpty used v o → h ≡ false → c ≡ replaced q
+      → d ≡ digestBy c used v checksum code (o .integer)
       → record { number = done; digest = d } ≡ distributed used v checksum code o
   unfolding distributed
   distributed-done h d c t g u k l = rw (l, k, e, ← third, t, ← g, u)
@@ -159,7 +164,8 @@ module _ (n : ℕ) (s : State) (o : Options) (l : Limits) (k : known (s .variant
     unfolding measured isTooLarge
     measured-small r t f = rw (f, fits, ← g, t)
 
-    pub measured-uncoded : (c : Coded) (r : Finalized) → b ≡ false → c ≡ coded n → (c .number ≡ 0 → ⊥) → r ≡ refused (c .number) → r ≡ measured n s o
+    pub measured-uncoded : (c : Coded) (r : Finalized) → b ≡ false → c ≡ coded n → (c .number ≡ 0 → ⊥)
+        → r ≡ refused (c .number) → r ≡ measured n s o
     unfolding measured isTooLarge classed
     measured-uncoded c r t p z f = rw (f, fits, ← g, t, ← p, ne-eqb (c .number) 0 z)
 
@@ -209,10 +215,12 @@ module _ (s : State) (p : Processed) (e : answerOf p ≡ processed s) where
     with-known n t f = by-case (rw (f, t))
 
 -- the option number refuses, or gives the flags
-pub finalized-refused : (s : State) (n : ℕ) (c : Chosen) (r : Finalized) → c ≡ chosen n → (c .number ≡ 0 → ⊥) → r ≡ refused (c .number) → r ≡ finalized s n
+pub finalized-refused : (s : State) (n : ℕ) (c : Chosen) (r : Finalized) → c ≡ chosen n → (c .number ≡ 0 → ⊥)
+    → r ≡ refused (c .number) → r ≡ finalized s n
 unfolding finalized finalizedBy
 finalized-refused s n c r e z f = rw (f, ← e, ne-eqb (c .number) 0 z)
 
-pub finalized-done : (s : State) (n : ℕ) (c : Chosen) (r : Finalized) → c ≡ chosen n → c .number ≡ 0 → r ≡ finalizedWith s (c .options) → r ≡ finalized s n
+pub finalized-done : (s : State) (n : ℕ) (c : Chosen) (r : Finalized) → c ≡ chosen n → c .number ≡ 0
+    → r ≡ finalizedWith s (c .options) → r ≡ finalized s n
 unfolding finalized finalizedBy
 finalized-done s n c r e z f = rw (f, ← e, eq-eqb (c .number) 0 z)

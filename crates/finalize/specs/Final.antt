@@ -1,4 +1,4 @@
--- Finalizing, in the order of its steps (document 01, Finalizing; Numbers for every answer). The state is only read.
+-- Finalizing, in the order of its steps (docs/RULES.md, sections 4 and 6). The state is only read.
 -- Assumes nothing.
 use Prim.Native.Nat.{ℕ}
 use mathlib.Core.Bool.{Bool, cond}

@@ -1,4 +1,4 @@
--- The states that no bytes reach, and what is answered (document 01, Mapping and counting; Numbers for every answer).
+-- The states that no bytes reach, and what is answered (docs/RULES.md, sections 3 and 6).
 -- Assumes nothing.
 use mathlib.Core.Bool.{Bool, true, false, cond, not, _&&_, _||_}
 use mathlib.Core.List.{List}

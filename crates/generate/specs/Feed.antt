@@ -1,4 +1,4 @@
--- What one byte does to a state, and a list of bytes (document 01, Mapping and counting).
+-- What one byte does to a state, and a list of bytes (docs/RULES.md, section 3).
 -- Assumes nothing.
 use mathlib.Core.Bool.{cond}
 use mathlib.Core.List.{List, [], _∷_}

@@ -1,4 +1,4 @@
--- What a later byte does to the checksum and to the counters (document 01, Mapping and counting).
+-- What a later byte does to the checksum and to the counters (docs/RULES.md, section 3).
 -- Assumes nothing.
 use mathlib.Core.List.{List}
 use Prim.Native.Nat.{ℕ, _+_, _%_, _^_}

@@ -13,9 +13,9 @@ use lib.ListN.{length, getD, drop, drop-of-length-le}
 use lib.Seq.{drop-cons}
 use borrow.Author.Tests.{lt-ltb, le-ltb, ltb-true, ltb-false}
 use Rattle.params.specs.Answers.{done, noLengthCode}
-use Rattle.length.specs.declared.Coded.{Coded}
 use Rattle.length.specs.Tops.{tops}
 use Rattle.length.specs.Code.{firstFrom, coded}
+use Rattle.length.specs.Theorems.{HasCode, NoCode, ZeroCode}
 use Rattle.length.proofs.Tops.{tops-count, tops-rising}
 
 -- ---- the loop
@@ -110,13 +110,7 @@ found : (n : ℕ) → n ≤ 4_224_281_216 → firstFrom n tops < length tops
 found n h = omega (arith, tops-count, first-le n tops 169 (omega (arith, tops-count)) (omega (arith, last-top)))
 
 -- up to the last top the answer is a code: its top is not below n, and each earlier top is
-pub record IsCode (n : ℕ) (r : Coded) : Type 0 where
-  pub given : r .number ≡ done
-  pub small : r .code < 170
-  pub reaches : n ≤ getD tops (r .code) 0
-  pub first : (k : ℕ) → k < r .code → getD tops k 0 < n
-
-pub has-code : (n : ℕ) → n ≤ 4_224_281_216 → IsCode n (coded n)
+pub has-code : HasCode
 unfolding coded
 has-code n h =
     rw (lt-ltb (firstFrom n tops) (length tops) (found n h))
@@ -134,7 +128,7 @@ top-le i h (no l) =
     let e : i ≡ 169 = omega arith in
     rw e (omega (arith, last-top))
 
--- beyond the last top there is no code: the answer is 5
+-- beyond the last top, the search decided
 none-by : (n : ℕ) → 4_224_281_216 < n → Dec (firstFrom n tops < length tops) → coded n ≡ record { number = noLengthCode; code = 0 }
 unfolding coded
 none-by n h (yes l) =
@@ -142,10 +136,11 @@ none-by n h (yes l) =
     absurd (omega (arith, first-reaches n tops l))
 none-by n h (no l) = rw (le-ltb (firstFrom n tops) (length tops) (omega arith))
 
-pub no-code : (n : ℕ) → 4_224_281_216 < n → coded n ≡ record { number = noLengthCode; code = 0 }
+-- beyond the last top there is no code: the answer is 5
+pub no-code : NoCode
 no-code n h = none-by n h (decLt _ _)
 
 -- length 0 has code 0
-pub zero-code : coded 0 ≡ record { number = done; code = 0 }
+pub zero-code : ZeroCode
 unfolding coded tops
 zero-code = refl

@@ -1,4 +1,4 @@
--- The option number (document 01, Numbers for every answer): 1 conservative, 2 integer ratios, 4 small, 8 half, 16 quarter, added.
+-- The option number (docs/RULES.md, section 7): 1 conservative, 2 integer ratios, 4 small, 8 half, 16 quarter, added.
 -- Assumes nothing.
 use Prim.Native.Nat.{ℕ, _/_, _%_}
 use mathlib.Core.Bool.{Bool, true, false, cond}

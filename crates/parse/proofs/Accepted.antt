@@ -17,6 +17,7 @@ use Rattle.body.specs.Body.{bytesOf}
 use Rattle.hash.specs.Digest.{Made}
 use Rattle.text.specs.Text.{bodyText, textOf, textSize, writeOf}
 use Rattle.parse.specs.Reading.{isDigit, allDigits, byteAt, bytesFrom, bodyFrom, digestOf, digitsOf, beginsT1, readOf}
+use Rattle.parse.specs.Theorems.{TextAgain, WriteAgain, ReadMade, ReadVariant, OneText}
 use Rattle.params.proofs.Tests.{and-both}
 use Rattle.parse.proofs.Digits.{low-back, high-back, byte-small, digits-head, digits-tail, digits-at}
 use Rattle.parse.proofs.Reading.{length-bytes}
@@ -150,32 +151,29 @@ module _ (v : ℕ) (s : List ℕ) (a : Accepted v s) where
         rest = λ (i : ℕ) (h : bytesOf v ≤ i). padded-rest bytes (64 - length bytes) i (omega arith);
       }
 
-module _ (v : ℕ) (s : List ℕ) (read : readOf v s .number ≡ done) where
-  -- writing what was read gives the text
-  pub text-again : textOf (readOf v s .digest) ≡ s
-  text-again =
-      let a = accepted v s read in
-      rw (accepted-read v s a) (accepted-text v s a)
+-- writing what was read gives the text
+pub text-again : TextAgain
+text-again v s read =
+    let a = accepted v s read in
+    rw (accepted-read v s a) (accepted-text v s a)
 
-  -- what was read is a digest that the port makes
-  pub read-made : Made (readOf v s .digest)
-  read-made =
-      let a = accepted v s read in
-      rw (accepted-read v s a) (accepted-made v s a)
+-- what was read is a digest that the port makes
+pub read-made : ReadMade
+read-made v s read =
+    let a = accepted v s read in
+    rw (accepted-read v s a) (accepted-made v s a)
 
-  -- of the variant that was asked for
-  pub read-variant : readOf v s .digest .variant ≡ v
-  unfolding digestOf
-  read-variant = rw (accepted-read v s (accepted v s read))
+-- of the variant that was asked for
+pub read-variant : ReadVariant
+unfolding digestOf
+read-variant v s read = rw (accepted-read v s (accepted v s read))
 
 -- two texts that are read to one digest are one text
-pub one-text : (v w : ℕ) (s t : List ℕ) → readOf v s .number ≡ done → readOf w t .number ≡ done
-    → readOf v s .digest ≡ readOf w t .digest → s ≡ t
+pub one-text : OneText
 one-text v w s t p q e = sym (text-again v s p) ∙ ap textOf e ∙ text-again w t q
 
 -- writing what was read leaves the text at the destination's front
-pub write-again : (v : ℕ) (s destination : List ℕ) → readOf v s .number ≡ done → length s ≤ length destination
-    → writeOf (readOf v s .digest) destination ≡ record { number = done; destination = s ++ drop (length s) destination }
+pub write-again : WriteAgain
 unfolding writeOf
 write-again v s destination p h =
     let m = read-made v s p in

@@ -1,4 +1,4 @@
--- Reading a text (document 01, Text and Numbers for every answer): exactly the written form, with any bytes.
+-- Reading a text (docs/RULES.md, sections 5 and 6): exactly the written form, with any bytes.
 -- Assumes nothing.
 use mathlib.Core.Bool.{Bool, true, cond, not, _&&_, _||_}
 use mathlib.Core.List.{List, [], _∷_, _++_}

@@ -1,4 +1,4 @@
--- The byte table T (document 01, Mapping and counting; the values are those of `SUBST_TABLE` in pearson.rs).
+-- The byte table T (docs/RULES.md, section 2; the values are those of `SUBST_TABLE` in pearson.rs).
 -- Assumes nothing.
 use mathlib.Core.List.{List, [], _∷_}
 use Prim.Native.Nat.{ℕ, _+_}

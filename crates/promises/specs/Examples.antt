@@ -1,4 +1,4 @@
--- The marked examples (document 01, The marked examples): each question, worked out by the definitions, beside its answer.
+-- The marked examples (docs/RULES.md, section 9): each question, worked out by the definitions, beside its answer.
 -- Where a question has several answers, both sides list them in turn. The letters 'B' to 'E' are the bytes 66 to 69.
 -- Assumes nothing.
 use mathlib.Core.List.{List, [], _∷_, map}

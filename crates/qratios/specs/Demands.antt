@@ -1,4 +1,4 @@
--- What is promised of the numbers and of the two paths, as statements (document 01, Finalizing, step 6, and The marked examples).
+-- What is promised of the numbers and of the two paths, as statements (docs/RULES.md, section 4, step 6, and section 9).
 -- Assumes nothing.
 use Prim.Native.Nat.{ℕ, suc, _+_, _-_, _*_, _%_, _^_, _≤_, _<_}
 use mathlib.Core.Path.{_≡_}

@@ -1,4 +1,4 @@
--- The ratios of the first two quartiles to the third, by both paths, and the answers that carry them (document 01, Finalizing, step 6).
+-- The ratios of the first two quartiles to the third, by both paths, and the answers that carry them (docs/RULES.md, section 4, step 6).
 -- Assumes nothing.
 use Prim.Native.Nat.{ℕ, _+_, _*_, _/_, _%_, _^_, _≤_, _<_}
 use mathlib.Core.Bool.{Bool, cond, _&&_}

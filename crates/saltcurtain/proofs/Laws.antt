@@ -239,7 +239,8 @@ module _ (q1 q2 q3 : ℕ) (a : RatiosAnswer) (lent : List ℕ) (e : a ≡ ratios
 
     -- the four numbers
     pub ratioed-done : Written done
-        (toBits binary32 (a .ratios .quotient1) ∷ toBits binary32 (a .ratios .quotient2) ∷ a .ratios .whole1 ∷ a .ratios .whole2 ∷ []) (ratioed q1 q2 q3 lent)
+        (toBits binary32 (a .ratios .quotient1) ∷ toBits binary32 (a .ratios .quotient2) ∷ a .ratios .whole1 ∷ a .ratios .whole2 ∷ [])
+        (ratioed q1 q2 q3 lent)
     unfolding ratioed ratiosOf
     ratioed-done = rw (e, o) (record { answered = refl; left = rw (t1 .back, t2 .back) })
 

@@ -1,5 +1,5 @@
--- What the C entry points answer, and what they leave in the lent memory (document 01, Numbers for every answer: the order of the
--- refusals). A refusal leaves it as it was.
+-- What the C entry points answer, and what they leave in the lent memory (docs/RULES.md, sections 6 and 8).
+-- A refusal leaves it as it was.
 -- Assumes nothing.
 use Prim.Native.Nat.{ℕ}
 use mathlib.Core.Bool.{cond, not}
@@ -60,4 +60,5 @@ ratioed q1 q2 q3 lent =
 
 -- the code of a length
 unfoldable pub classed : ℕ → List ℕ → Wrote
-classed n lent = cond (eqb (coded n .number) done) (record { number = done; destination = coded n .code ∷ [] }) (kept (coded n .number) lent)
+classed n lent =
+    cond (eqb (coded n .number) done) (record { number = done; destination = coded n .code ∷ [] }) (kept (coded n .number) lent)
