@@ -3,3 +3,4 @@ pub mod Third
 pub mod Agree
 pub mod Inputs
 pub mod Unique
+pub mod Digests
