@@ -177,7 +177,7 @@ module _ (n : ℕ) (s : State) (o : Options) (l : Limits) (k : known (s .variant
 -- ---- the refusals before the steps
 
 -- a processed length is given for a known variant alone
-length-known : (s : State) (k : Bool) → known (s .variant) ≡ k → processed s .number ≡ 0 → known (s .variant) ≡ true
+pub length-known : (s : State) (k : Bool) → known (s .variant) ≡ k → processed s .number ≡ 0 → known (s .variant) ≡ true
 unfolding processed
 length-known s true p e = p
 length-known s false p e = absurd (omega (arith, rw p at e))

@@ -1,4 +1,4 @@
--- The states that bytes reach from a fresh one: their counters, their length, their variant, and that none is refused.
+-- The states that bytes reach from a fresh one: their counters, their checksum, their length, their variant, and that none is refused.
 -- Assumes nothing.
 use mathlib.Core.Path.{_≡_, refl, _∙_, ap, sym}
 use mathlib.Core.Bool.{true}
@@ -11,12 +11,14 @@ use lib.Seq.{take-all}
 use borrow.Author.Tests.{lt-ltb}
 use Rattle.params.specs.Variants.{known}
 use Rattle.params.specs.Answers.{done}
+use Rattle.pearson.proofs.Values.{bucket-lt}
+use Rattle.leap.specs.Count.{checked}
 use Rattle.generate.specs.declared.State.{State}
 use Rattle.generate.specs.Feed.{fresh, filled, slid, step, feed}
 use Rattle.generate.specs.declared.Processed.the-variants.{Known, Unknown}
 use Rattle.generate.specs.Answer.{updated, total, answerOf, processed}
 use Rattle.generate.specs.Theorems.{Six, SixExact, Taken, ReachedUnmarked, ShortUnused, FirstBytesOnly, FullStays}
-use Rattle.generate.proofs.Step.{by-step, cut, cut-at, past-the-stop}
+use Rattle.generate.proofs.Step.{by-step, cut, cut-at, past-the-stop, feed-keeps}
 use Rattle.generate.proofs.Marks.{Fine, fine-unmarked, unmarked-fine}
 use Rattle.generate.proofs.Counters.{feed-sixfold, fresh-sixfold}
 
@@ -53,6 +55,12 @@ pub fresh-fine : (v : ℕ) → Fine (fresh v .length) (fresh v .«tail_len»)
 unfolding fresh
 fresh-fine v = record { few = omega arith; stops = omega arith; empty = λ h. refl }
 
+-- a checksum that is a byte stays one
+step-checksum : (s : State) (b : ℕ) → s .checksum < 256 → step s b .checksum < 256
+unfolding filled slid checked
+step-checksum s b k =
+    by-step s b (λ (t : State). t .checksum < 256) (λ h. k) (λ h l. bucket-lt (s .variant) 0 b _ (s .checksum)) (λ h l. k)
+
 -- without a mark, a state whose processed length is 2^32 is changed by no bytes
 fine-stays : (bs : List ℕ) (s : State) → Fine (s .length) (s .«tail_len») → total s ≡ 2 ^ 32 → feed bs s ≡ s
 fine-stays bs s k e = past-the-stop bs s (omega (arith, k .stops)) (omega (arith, k .few))
@@ -77,6 +85,11 @@ module _ (v : ℕ) (bs : List ℕ) where
   -- each counter is below 2^32
   pub counters-small : (i : ℕ) → getD (feed bs (fresh v) .counters) i 0 < 2 ^ 32
   counters-small = feed-sixfold bs (fresh v) (fresh-sixfold v) .small
+
+  -- the checksum is a byte
+  pub checksum-small : feed bs (fresh v) .checksum < 256
+  unfolding fresh
+  checksum-small = feed-keeps (λ (s : State). s .checksum < 256) step-checksum bs (fresh v) (omega arith)
 
   -- bytes lead on from a fresh state
   reached : Onward (length bs) (fresh v) (feed bs (fresh v))

@@ -1,1 +1,2 @@
 mod Making
+mod Unique

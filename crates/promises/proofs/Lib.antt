@@ -2,4 +2,4 @@ pub mod Marked
 pub mod Third
 pub mod Agree
 pub mod Inputs
-pub mod Unique
+pub mod Digests

@@ -1,1 +1,2 @@
 mod Line
+mod Unique

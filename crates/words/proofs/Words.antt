@@ -15,7 +15,7 @@ use lib.Ieee.Bits.{is-true}
 use Rattle.params.specs.Words.{every}
 use Rattle.params.proofs.Every.{and-left, and-right, every-at}
 use Rattle.words.specs.declared.Number.{Number}
-use Rattle.words.specs.Words.{wordSize, afterWords, firstWord, sameText, isDecimal}
+use Rattle.words.specs.Words.{wordSize, afterWords, restAt, firstWord, sameText, isDecimal}
 use Rattle.words.specs.Words.{allDecimal, decimalAfter, isNumeral, numberOf}
 
 -- ---- words
@@ -103,6 +103,13 @@ walked-all line count at left p h =
 pub rest-is : (line : List ℕ) (count from : ℕ) → drop from line ≡ afterWords count line
     → take (length line - from) (drop from line) ≡ afterWords count line
 rest-is line count from e = part-all line from ∙ e
+
+-- and that place is where it starts
+pub rest-at : (line : List ℕ) (count from block place : ℕ) → drop from line ≡ afterWords count line → from ≤ length line
+    → _≡_ {A = ℕ × ℕ} (block, from + place) (block, restAt count line + place)
+rest-at line count from block place e h =
+    let k : from ≡ restAt count line = omega (arith, ap (λ (s : List ℕ). length s) e, length-drop from line) in
+    ap {B = ℕ × ℕ} (λ (n : ℕ). (block, n + place)) k
 
 -- its front up to a space is its first word
 pub word-is : (x rest : List ℕ) (n : ℕ) → rest ≡ x → n ≡ wordSize rest → take n rest ≡ firstWord x

@@ -6,6 +6,7 @@ use mathlib.Core.List.{List, [], _∷_}
 use Prim.Native.Nat.{ℕ, zero, suc, _+_, _-_, _*_}
 use lib.Dec.{leb, ltb, eqb}
 use lib.ListN.{length, getD, take, drop}
+use denote.Ref.{RefT}
 use Rattle.params.specs.Words.{every}
 use Rattle.words.specs.declared.Number.{Number}
 
@@ -22,6 +23,14 @@ afterWord s = drop (suc (wordSize s)) s
 abbrev pub afterWords : ℕ → List ℕ → List ℕ
 afterWords zero s = s
 afterWords (suc k) s = afterWords k (afterWord s)
+
+-- where that starts: before it stands what is not left
+abbrev pub restAt : ℕ → List ℕ → ℕ
+restAt k s = length s - length (afterWords k s)
+
+-- so many characters into a lent part: its block of memory, and the place there
+abbrev pub into : RefT (List ℕ) → ℕ → ℕ × ℕ
+into s n = (s .ptr .0, n + s .ptr .1)
 
 -- the first word
 abbrev pub firstWord : List ℕ → List ℕ

@@ -6,7 +6,7 @@ ghost use mathlib.Core.Path.{_≡_};
 ghost use mathlib.Core.Bool.{true};
 ghost use Prim.Native.Nat.{_-_, _≤_};
 ghost use lib.ListN.{length, drop};
-ghost use Rattle.words.specs.Words.{wordSize, afterWords, firstWord, sameText};
+ghost use Rattle.words.specs.Words.{wordSize, afterWords, restAt, into, firstWord, sameText};
 ghost use Rattle.words.specs.Words.{isDecimal, allDecimal, decimalAfter, isNumeral, numberOf};
 
 // ---- words
@@ -51,17 +51,19 @@ fn start_of(line: &[u8], count: usize) -> usize
     at
 }
 
-// What stands after so many words.
+// What stands after so many words, where it stands in the line.
 pub fn rest_after(line: &[u8], count: usize) -> &[u8]
     ensures { λ r. ⌜ now r ≡ afterWords count (now (line .entry)) ⌝ }
+    ensures { λ r. ⌜ r .ptr ≡ into (line .entry) (restAt count (now (line .entry))) ⌝ }
 {
     let from = start_of(line, count);
     &line[from..]
 }
 
-// The word after so many words.
+// The word after so many words, where it stands in the line.
 pub fn word_after(line: &[u8], count: usize) -> &[u8]
     ensures { λ r. ⌜ now r ≡ firstWord (afterWords count (now (line .entry))) ⌝ }
+    ensures { λ r. ⌜ r .ptr ≡ into (line .entry) (restAt count (now (line .entry))) ⌝ }
 {
     let rest = rest_after(line, count);
     let end = word_size(rest);

@@ -1,6 +1,6 @@
 -- `words::rest_after` meets its contract.
 -- Assumes nothing.
-use Rattle.words.proofs.Words.{rest-is}
+use Rattle.words.proofs.Words.{rest-is, rest-at}
 use borrow.Author.Needs.{needs}
 use Rattle.words.proofs.rest_after.Statement.{statement}
 use Rattle.words.proofs.rest_after.Tie as tie
@@ -18,7 +18,7 @@ part-result-end : tie.Need-part-result-end
 part-result-end c = search needs
 
 returns : tie.Need-returns
-returns c = search rest-is
+returns c = (search rest-is, search rest-at)
 
 pub rest-after-spec : {M : Type 1} → statement M
 rest-after-spec =

@@ -15,7 +15,7 @@ slice-aggregate-result : tie.Need-slice-aggregate-result
 slice-aggregate-result c = search (front-size, needs)
 
 returns : tie.Need-returns
-returns c = search word-is
+returns c = (search word-is, search needs)
 
 pub word-after-spec : {M : Type 1} → statement M
 word-after-spec =
