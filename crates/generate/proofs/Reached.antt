@@ -12,7 +12,7 @@ use borrow.Author.Tests.{lt-ltb}
 use Rattle.params.specs.Variants.{known}
 use Rattle.params.specs.Answers.{done}
 use Rattle.pearson.proofs.Values.{bucket-lt}
-use Rattle.leap.specs.Count.{checked}
+use Rattle.counting.specs.Count.{checked}
 use Rattle.generate.specs.declared.State.{State}
 use Rattle.generate.specs.Feed.{fresh, filled, slid, step, feed}
 use Rattle.generate.specs.declared.Processed.the-variants.{Known, Unknown}

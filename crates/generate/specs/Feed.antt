@@ -5,7 +5,7 @@ use mathlib.Core.List.{List, [], _∷_}
 use Prim.Native.Nat.{ℕ, _+_}
 use lib.Dec.{ltb}
 use lib.ListN.{getD, set, replicate}
-use Rattle.leap.specs.Count.{checked, counted}
+use Rattle.counting.specs.Count.{checked, counted}
 use Rattle.generate.specs.declared.State.{State}
 
 -- the fresh state of a variant: all but the variant is 0

@@ -1,11 +1,11 @@
--- `generate::run` meets its contract: after i bytes, those that are left lead to the same end.
+-- `counting::run` meets its contract: after i bytes, those that are left lead to the same end.
 -- Assumes nothing.
 use Prim.Native.Nat.{_-_}
 use lib.ListN.{length}
-use Rattle.generate.proofs.Loops.{Runs, runs-none, runs-more, runs-all}
+use Rattle.counting.proofs.Laws.{Runs, runs-none, runs-more, runs-all}
 use borrow.Author.Needs.{needs}
-use Rattle.generate.proofs.run.Statement.{statement}
-use Rattle.generate.proofs.run.Tie as tie
+use Rattle.counting.proofs.run.Statement.{statement}
+use Rattle.counting.proofs.run.Tie as tie
 
 abbrev Inv-loop : tie.InvT-loop
 Inv-loop t l counters₀ variant bytes next₀ i₀ counters next i = Runs variant bytes counters₀ next₀ i counters next

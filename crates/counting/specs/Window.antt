@@ -2,10 +2,9 @@
 -- Assumes nothing.
 use mathlib.Core.Path.{_≡_}
 use mathlib.Core.List.{List, [], _∷_}
-use Prim.Native.Nat.{ℕ, _*_, _/_}
-use lib.ListN.{length, take}
-use Rattle.leap.specs.declared.Window.{Window}
-use Rattle.leap.specs.Count.{checked, counted}
+use Prim.Native.Nat.{ℕ}
+use Rattle.counting.specs.declared.Window.{Window}
+use Rattle.counting.specs.Count.{checked, counted}
 
 -- the window after a byte
 unfoldable pub moved : ℕ → Window → ℕ → Window
@@ -29,7 +28,3 @@ hits v (b ∷ bs) w cs = hits v bs (moved v w b) (hit v w cs b)
 pub record Ran (v : ℕ) (bs cs : List ℕ) (w : Window) (cs′ : List ℕ) (w′ : Window) : Type 0 where
   pub window : w′ ≡ moves v bs w
   pub counters : cs′ ≡ hits v bs w cs
-
--- the whole fours of a list: all of it but the last three at most
-unfoldable pub fours : List ℕ → List ℕ
-fours bs = take (length bs / 4 * 4) bs

@@ -1,9 +1,9 @@
--- `leap::increment_by` meets its contract: the counter is read, and the sum is stored.
+-- `counting::increment_by` meets its contract: the counter is read, and the sum is stored.
 -- Assumes nothing.
-use Rattle.leap.proofs.Places.{bumped-by}
+use Rattle.counting.proofs.Laws.{bumped-by}
 use borrow.Author.Needs.{needs}
-use Rattle.leap.proofs.increment_by.Statement.{statement}
-use Rattle.leap.proofs.increment_by.Tie as tie
+use Rattle.counting.proofs.increment_by.Statement.{statement}
+use Rattle.counting.proofs.increment_by.Tie as tie
 
 mul-old : tie.Need-mul-old
 mul-old c = search needs

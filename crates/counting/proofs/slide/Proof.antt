@@ -1,9 +1,9 @@
--- `generate::slide` meets its contract.
+-- `counting::slide` meets its contract.
 -- Assumes nothing.
-use Rattle.generate.proofs.Loops.{ran-one}
+use Rattle.counting.proofs.Laws.{ran-one}
 use borrow.Author.Needs.{needs}
-use Rattle.generate.proofs.slide.Statement.{statement}
-use Rattle.generate.proofs.slide.Tie as tie
+use Rattle.counting.proofs.slide.Statement.{statement}
+use Rattle.counting.proofs.slide.Tie as tie
 
 b-mapping-requires : tie.Need-b-mapping-requires
 b-mapping-requires c κs = search needs

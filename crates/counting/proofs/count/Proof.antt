@@ -1,9 +1,9 @@
--- `generate::count` meets its contract: six increments in turn.
+-- `counting::count` meets its contract: six increments in turn.
 -- Assumes nothing.
-use Rattle.generate.proofs.Loops.{count-six}
+use Rattle.counting.proofs.Laws.{count-six}
 use borrow.Author.Needs.{needs}
-use Rattle.generate.proofs.count.Statement.{statement}
-use Rattle.generate.proofs.count.Tie as tie
+use Rattle.counting.proofs.count.Statement.{statement}
+use Rattle.counting.proofs.count.Tie as tie
 
 increment-at-requires : tie.Need-increment-at-requires
 increment-at-requires c κs = search needs
