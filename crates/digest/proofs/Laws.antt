@@ -13,7 +13,7 @@ use Rattle.reading.proofs.Bytes.{arrived-enough}
 use Rattle.generate.specs.declared.State.{State}
 use Rattle.generate.specs.declared.StateAnswer.{StateAnswer}
 use Rattle.generate.specs.Feed.{feed, fresh}
-use Rattle.generate.specs.Answer.{marked, made, updated}
+use Rattle.generate.specs.Answer.{marked, newAnswer, updated}
 use Rattle.generate.proofs.Chunks.{two-updates}
 use Rattle.digest.specs.declared.Turn.{Turn}
 use Rattle.digest.specs.Turns.{Follows, Turned, Ended}
@@ -45,8 +45,8 @@ pub record Held (s : State) (k : ℕ) : Type 0 where
   pub is : s ≡ updated (fresh 128) bytes .state
 
 -- before the first read
-pub held-none : (m : StateAnswer) → m ≡ made 128 → Held (m .state) 0
-unfolding made updated feed fresh known marked
+pub held-none : (m : StateAnswer) → m ≡ newAnswer 128 → Held (m .state) 0
+unfolding newAnswer updated feed fresh known marked
 held-none m e = record { bytes = []; arrived = none; is = ap (λ (a : StateAnswer). a .state) e }
 
 -- a count that has not reached 2^32 does not roll over

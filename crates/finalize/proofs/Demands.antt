@@ -24,8 +24,8 @@ use Rattle.generate.specs.Answer.{processed}
 use Rattle.options.specs.declared.Options.{Options}
 use Rattle.options.specs.Options.{chosen}
 use Rattle.finalize.specs.declared.Finalized.{Finalized}
-use Rattle.finalize.specs.Final.{refused, counts, isTooLarge, isTooSmall, isThreeQuarterEmpty, isHalfEmpty, replaced, digestBy}
-use Rattle.finalize.specs.Final.{distributed, classed, measured, lengthed, finalizedWith, finalizedBy, finalized}
+use Rattle.finalize.specs.Final.{refused, countsAs, isTooLarge, isTooSmall, isThreeQuarterEmpty, isHalfEmpty, replaced, digestBy}
+use Rattle.finalize.specs.Final.{distributed, withCode, measured, withLength, finalizedWith, finalizedBy, finalized}
 use Rattle.finalize.specs.Demands.{StatesGetMade}
 use Rattle.finalize.proofs.Laws.{length-known}
 
@@ -67,8 +67,8 @@ module _ (s : State) (o : Options) (wide : length (s .counters) ≡ 256) (small 
   used-all = simp length-take (omega (arith, wide, known-most (s .variant) k))
 
   -- steps 2 to 7: a length up to the maximum has a code, which is a byte
-  gives-classed : (n : ℕ) → isTooLarge (s .variant) n ≡ false → Gives (s .variant) (classed (coded n) s o)
-  unfolding classed isTooLarge maximum
+  gives-classed : (n : ℕ) → isTooLarge (s .variant) n ≡ false → Gives (s .variant) (withCode (coded n) s o)
+  unfolding withCode isTooLarge maximum
   gives-classed n e =
       let v = s .variant in
       let used = take v (s .counters) in
@@ -82,7 +82,7 @@ module _ (s : State) (o : Options) (wide : length (s .counters) ≡ 256) (small 
   unfolding measured
   gives-measured n =
       let v = s .variant in
-      let r = classed (coded n) s o in
+      let r = withCode (coded n) s o in
       gives-by v (isTooLarge v n) (refused tooLargeInput) (cond (isTooSmall v n o) (refused tooSmallInput) r)
       (λ e. gives-refused v tooLargeInput (λ z. omega arith))
       (λ e. gives-by v (isTooSmall v n o) (refused tooSmallInput) r (λ h. gives-refused v tooSmallInput (λ z. omega arith))
@@ -90,11 +90,11 @@ module _ (s : State) (o : Options) (wide : length (s .counters) ≡ 256) (small 
 
 -- 6 and 19 before them
 gives-with : (s : State) (o : Options) → length (s .counters) ≡ 256 → s .checksum < 256 → Gives (s .variant) (finalizedWith s o)
-unfolding finalizedWith lengthed
+unfolding finalizedWith withLength
 gives-with s o wide small =
     let p = processed s in
-    gives-by (s .variant) (eqb (p .number) done) (measured (counts p) s o) (refused (p .number))
-    (λ e. gives-measured s o wide small (length-known s (known (s .variant)) refl (eqb-true (p .number) done e)) (counts p))
+    gives-by (s .variant) (eqb (p .number) done) (measured (countsAs p) s o) (refused (p .number))
+    (λ e. gives-measured s o wide small (length-known s (known (s .variant)) refl (eqb-true (p .number) done e)) (countsAs p))
     (λ e. gives-refused (s .variant) (p .number) (eqb-false (p .number) done e))
 
 -- where a state gets a digest, that is a record that the port makes, of the state's variant

@@ -19,7 +19,7 @@ use Rattle.quartile.specs.Quartile.{quartiles}
 use Rattle.quartile.specs.Counts.{nonZero}
 use Rattle.quartile.proofs.Three.{quartiles-ordered}
 use Rattle.qratios.specs.declared.ByteAnswer.{ByteAnswer}
-use Rattle.qratios.specs.Ratios.{ordered, byteOf, ratiosByte}
+use Rattle.qratios.specs.Ratios.{ordered, byteAnswered, ratiosByte}
 use Rattle.qratios.proofs.Answers.{in-order}
 use Rattle.body.specs.Body.{bodyOf}
 use Rattle.hash.specs.declared.Digest.{Digest}
@@ -32,7 +32,7 @@ use Rattle.options.specs.declared.Chosen.{Chosen}
 use Rattle.options.specs.Options.{chosen}
 use Rattle.finalize.specs.declared.Finalized.{Finalized}
 use Rattle.finalize.specs.Final.{refused, isTooLarge, isTooSmall, isThreeQuarterEmpty, replaced, leastNonZero, isHalfEmpty}
-use Rattle.finalize.specs.Final.{digestBy, distributed, classed, measured, lengthed, finalizedWith, finalizedBy, finalized}
+use Rattle.finalize.specs.Final.{digestBy, distributed, withCode, measured, withLength, finalizedWith, finalizedBy, finalized}
 
 -- ---- too small
 
@@ -117,9 +117,9 @@ replaced-ordered used q r e f =
 
 -- the record is made of its parts
 pub digest-made : (q : Quartiles) (used : List ℕ) (v checksum code : ℕ) (i : Bool) (r : ByteAnswer) (body : List ℕ)
-    → ordered (q .q1) (q .q2) (q .q3) ≡ true → r ≡ byteOf i (q .q1) (q .q2) (q .q3) → body ≡ bodyOf q used
+    → ordered (q .q1) (q .q2) (q .q3) ≡ true → r ≡ byteAnswered i (q .q1) (q .q2) (q .q3) → body ≡ bodyOf q used
     → record { body = body; variant = v; checksum = checksum; «length_code» = code; ratios = r .byte } ≡ digestBy q used v checksum code i
-unfolding digestBy byteOf
+unfolding digestBy byteAnswered
 digest-made q used v checksum code i r body o e f = rw (f, e, o)
 
 -- ---- steps 3 to 7
@@ -166,12 +166,12 @@ module _ (n : ℕ) (s : State) (o : Options) (l : Limits) (k : known (s .variant
 
     pub measured-uncoded : (c : Coded) (r : Finalized) → b ≡ false → c ≡ coded n → (c .number ≡ 0 → ⊥)
         → r ≡ refused (c .number) → r ≡ measured n s o
-    unfolding measured isTooLarge classed
+    unfolding measured isTooLarge withCode
     measured-uncoded c r t p z f = rw (f, fits, ← g, t, ← p, ne-eqb (c .number) 0 z)
 
     pub measured-coded : (c : Coded) (r : Finalized) → b ≡ false → c ≡ coded n → c .number ≡ 0
         → r ≡ distributed (take (s .variant) (s .counters)) (s .variant) (s .checksum) (c .code) o → r ≡ measured n s o
-    unfolding measured isTooLarge classed
+    unfolding measured isTooLarge withCode
     measured-coded c r t p z f = rw (f, fits, ← g, t, ← p, eq-eqb (c .number) 0 z)
 
 -- ---- the refusals before the steps
@@ -194,24 +194,24 @@ module _ (s : State) (p : Processed) (e : answerOf p ≡ processed s) where
   unknown-known t = length-known s (known (s .variant)) refl (number-is ∙ ap (λ (x : Processed). answerOf x .number) t)
 
   module _ (o : Options) (r : Finalized) where
-    by-case : r ≡ lengthed (answerOf p) s o → r ≡ finalizedWith s o
+    by-case : r ≡ withLength (answerOf p) s o → r ≡ finalizedWith s o
     unfolding finalizedWith
-    by-case f = f ∙ ap (λ (a : LengthAnswer). lengthed a s o) e
+    by-case f = f ∙ ap (λ (a : LengthAnswer). withLength a s o) e
 
     pub with-variant : p ≡ UnknownVariant → r ≡ refused unknownVariant → r ≡ finalizedWith s o
-    unfolding lengthed
+    unfolding withLength
     with-variant t f = by-case (rw (f, t))
 
     pub with-state : p ≡ UnreachedState → r ≡ refused unreachedState → r ≡ finalizedWith s o
-    unfolding lengthed
+    unfolding withLength
     with-state t f = by-case (rw (f, t))
 
     pub with-unknown : p ≡ Unknown → r ≡ measured 4_294_967_295 s o → r ≡ finalizedWith s o
-    unfolding lengthed
+    unfolding withLength
     with-unknown t f = by-case (rw (f, t))
 
     pub with-known : (n : ℕ) → p ≡ Known n → r ≡ measured n s o → r ≡ finalizedWith s o
-    unfolding lengthed
+    unfolding withLength
     with-known n t f = by-case (rw (f, t))
 
 -- the option number refuses, or gives the flags

@@ -25,8 +25,8 @@ judged s refusal answer =
     (refusal unknownVariant)
 
 -- what `new` answers; `fresh 0` is the all-zero record
-unfoldable pub made : ℕ → StateAnswer
-made v = cond (known v) (record { number = done; state = fresh v }) (record { number = unknownVariant; state = fresh 0 })
+unfoldable pub newAnswer : ℕ → StateAnswer
+newAnswer v = cond (known v) (record { number = done; state = fresh v }) (record { number = unknownVariant; state = fresh 0 })
 
 -- what `update` answers: a refusal carries the state it was given
 unfoldable pub updated : State → List ℕ → StateAnswer

@@ -18,7 +18,7 @@ ghost use lib.ListN.{length};
 ghost use lib.Seq.{sets};
 ghost use Rattle.counting.specs.Window.{Ran};
 ghost use Rattle.generate.specs.Feed.{fresh, feed};
-ghost use Rattle.generate.specs.Answer.{marked, made, updated, processed, answerOf};
+ghost use Rattle.generate.specs.Answer.{marked, newAnswer, updated, processed, answerOf};
 ghost use Rattle.generate.specs.Parts.{CutsOf, Opened, Fours};
 use counting::Window;
 
@@ -177,7 +177,7 @@ fn start(variant: u32) -> State
 
 // The fresh state of a variant; 6 for another variant.
 pub fn new(variant: u32) -> StateAnswer
-    ensures { λ r. ⌜ r ≡ made variant ⌝ }
+    ensures { λ r. ⌜ r ≡ newAnswer variant ⌝ }
 {
     if !params::is_known(variant) {
         return StateAnswer {

@@ -30,8 +30,8 @@ first-step : (n : ℕ) (xs : List ℕ) (i : ℕ) → i < length xs
     → firstFrom n (drop i xs) ≡ cond (ltb (getD xs i 0) n) (suc (firstFrom n (drop (i + 1) xs))) 0
 first-step n xs i h = rw (add-one, drop-cons xs i 0)
 
-count : (xs : List ℕ) → xs ≡ tops → length xs ≡ 170
-count xs e = ap length e ∙ tops-count
+tops-length : (xs : List ℕ) → xs ≡ tops → length xs ≡ 170
+tops-length xs e = ap length e ∙ tops-count
 
 -- at the start none is passed
 pub passed-none : (n : ℕ) (xs : List ℕ) → xs ≡ tops → Passed n xs 0
@@ -46,7 +46,7 @@ passed-more n xs i b h l =
       rest = omega (
         arith,
         b .rest,
-        rw (lt-ltb (getD xs i 0) n l) at (first-step n xs i (omega (arith, count xs (b .table)))),
+        rw (lt-ltb (getD xs i 0) n l) at (first-step n xs i (omega (arith, tops-length xs (b .table)))),
       );
     }
 
@@ -54,7 +54,7 @@ passed-more n xs i b h l =
 pub passed-here : (n : ℕ) (xs : List ℕ) (i : ℕ) → Passed n xs i → i < 170 → n ≤ getD xs i 0 → record { number = done; code = i } ≡ coded n
 unfolding coded
 passed-here n xs i b h l =
-    let c : length xs ≡ 170 = count xs (b .table) in
+    let c : length xs ≡ 170 = tops-length xs (b .table) in
     let f : firstFrom n xs ≡ i = omega (arith, b .rest, rw (le-ltb (getD xs i 0) n l) at (first-step n xs i (omega arith))) in
     rw (← b .table, f, lt-ltb i (length xs) (omega arith))
 
@@ -62,7 +62,7 @@ passed-here n xs i b h l =
 pub passed-all : (n : ℕ) (xs : List ℕ) (i : ℕ) → Passed n xs i → 170 ≤ i → record { number = noLengthCode; code = 0 } ≡ coded n
 unfolding coded
 passed-all n xs i b h =
-    let c : length xs ≡ 170 = count xs (b .table) in
+    let c : length xs ≡ 170 = tops-length xs (b .table) in
     let z : firstFrom n (drop i xs) ≡ 0 = rw (drop-of-length-le xs {i = i} (omega arith)) in
     let f : firstFrom n xs ≡ length xs = omega (arith, b .rest, b .within) in
     rw (← b .table, f, le-ltb (length xs) (length xs) (omega arith))

@@ -15,7 +15,7 @@ use Rattle.hash.specs.declared.Digest.{Digest}
 use Rattle.body.specs.Body.{bytesOf}
 use Rattle.hash.specs.Digest.{Made}
 use Rattle.text.specs.Text.{lowFirst, bodyText, textOf, textSize, writeOf}
-use Rattle.parse.specs.Reading.{allDigits, bytesFrom, bodyFrom, digestOf, digitsOf, beginsT1, readOf}
+use Rattle.parse.specs.Reading.{allDigits, bytesFrom, bodyFrom, digestFrom, digitsOf, beginsT1, readOf}
 use Rattle.parse.specs.Theorems.{TextRead, TextSizes, ReadWritten}
 use Rattle.parse.proofs.Digits.{digit-good, byte-back}
 use Rattle.text.proofs.Writing.{length-text}
@@ -81,8 +81,8 @@ module _ (d : Digest) (m : Made d) where
       (digits-of (d .ratios) (bodyText used) (m .ratios) (digits-body used (bytes-take (bytesOf (d .variant)) (d .body) (m .bytes)))))
 
   -- and gives the digest
-  digest-back : digestOf (d .variant) (drop 2 (textOf d)) ≡ d
-  unfolding digestOf bodyFrom textOf
+  digest-back : digestFrom (d .variant) (drop 2 (textOf d)) ≡ d
+  unfolding digestFrom bodyFrom textOf
   digest-back =
       let n = bytesOf (d .variant) in
       let used = take n (d .body) in

@@ -7,17 +7,17 @@ use native.Mathlib.Decide.{decLt}
 use lib.Dec.{eqb, eqb→eq, ltb, ltb→lt}
 use lib.ListN.{getD, List·getD-eq-default}
 use Rattle.params.proofs.Every.{every-at}
-use Rattle.pearson.specs.Table.{table, count}
+use Rattle.pearson.specs.Table.{table, occurs}
 use Rattle.pearson.specs.Mapping.{look}
 use Rattle.pearson.specs.Theorems.{TableOnce, LookBelow}
 
 single : ℕ → ℕ → Bool
-single k x = eqb (count k table) 1
+single k x = eqb (occurs k table) 1
 
 -- each byte stands in T once
 pub table-once : TableOnce
-unfolding single table count
-table-once k h = eqb→eq (count k table) 1 (every-at single table tt k h)
+unfolding single table occurs
+table-once k h = eqb→eq (occurs k table) 1 (every-at single table tt k h)
 
 small : ℕ → ℕ → Bool
 small k x = ltb x 256

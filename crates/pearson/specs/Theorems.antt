@@ -2,12 +2,12 @@
 -- Assumes nothing.
 use Prim.Native.Nat.{ℕ, _%_, _≤_, _<_}
 use mathlib.Core.Path.{_≡_}
-use Rattle.pearson.specs.Table.{table, count}
+use Rattle.pearson.specs.Table.{table, occurs}
 use Rattle.pearson.specs.Mapping.{look, short, bucket}
 
 -- each byte stands in T once
 abbrev pub TableOnce : Type 0
-TableOnce = (k : ℕ) → k < 256 → count k table ≡ 1
+TableOnce = (k : ℕ) → k < 256 → occurs k table ≡ 1
 
 -- an entry of T is a byte
 abbrev pub LookBelow : Type 0

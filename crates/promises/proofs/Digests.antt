@@ -13,13 +13,13 @@ use Rattle.hash.specs.declared.Digest.{Digest}
 use Rattle.hash.specs.Digest.{Made}
 use Rattle.text.specs.Text.{textOf, textSize, writeOf}
 use Rattle.parse.specs.Reading.{readOf}
-use Rattle.parse.proofs.RoundTrip.{round-trip, read-written}
+use Rattle.parse.proofs.RoundTrip.{text-read, read-written}
 use Rattle.generate.specs.Feed.{fresh, feed}
 use Rattle.generate.proofs.Reached.{counters-256, checksum-small, variant-stays}
 use Rattle.finalize.specs.declared.Finalized.{Finalized}
 use Rattle.finalize.specs.Final.{digestOf}
 use Rattle.finalize.proofs.Demands.{states-get-made}
-use Rattle.saltcurtain.specs.Entries.{judged, given, digested}
+use Rattle.saltcurtain.specs.Entries.{argumentNumber, given, digested}
 use Rattle.promises.specs.Demands.{InputsGetMade, UnusedAreZero, TextsReadBack, WrittenReadBack}
 
 -- the state that any bytes lead to has 256 counters, a checksum of one byte, and its variant
@@ -38,7 +38,7 @@ unused-are-zero v n bytes e i h =
 -- a record that the port makes comes back from its text
 text-back : (v : ℕ) (d : Digest) → Made d → d .variant ≡ v → readOf v (textOf d) ≡ record { number = done; digest = d }
 text-back v d m e =
-    subst (λ (u : ℕ). readOf u (textOf d) ≡ record { number = done; digest = d }) e (round-trip d m)
+    subst (λ (u : ℕ). readOf u (textOf d) ≡ record { number = done; digest = d }) e (text-read d m)
 
 -- so does every digest that an input gets
 pub texts-read-back : TextsReadBack
@@ -64,14 +64,14 @@ given-back v f lent true p m e =
 given-back v f lent false p m e = absurd (eqb-false (f .number) done p (rw p at e))
 
 -- where an argument was refused, likewise
-written-by : (v n : ℕ) (bytes lent : List ℕ) (b : Bool) → eqb (judged v n (length lent)) done ≡ b → digested v n bytes lent .number ≡ done
+written-by : (v n : ℕ) (bytes lent : List ℕ) (b : Bool) → eqb (argumentNumber v n (length lent)) done ≡ b → digested v n bytes lent .number ≡ done
     → readOf v (take (textSize v) (digested v n bytes lent .destination)) ≡ record { number = done; digest = digestOf v n bytes .digest }
 unfolding digested
 written-by v n bytes lent true p e =
     let f = digestOf v n bytes in
     rw p (given-back v f lent (eqb (f .number) done) refl (inputs-get-made v n bytes) (rw p at e))
-written-by v n bytes lent false p e = absurd (eqb-false (judged v n (length lent)) done p (rw p at e))
+written-by v n bytes lent false p e = absurd (eqb-false (argumentNumber v n (length lent)) done p (rw p at e))
 
 -- what the one-shot digest leaves at the front of its destination comes back
 pub written-read-back : WrittenReadBack
-written-read-back v n bytes lent = written-by v n bytes lent (eqb (judged v n (length lent)) done) refl
+written-read-back v n bytes lent = written-by v n bytes lent (eqb (argumentNumber v n (length lent)) done) refl

@@ -1,4 +1,4 @@
-pub mod Marked
+pub mod Examples
 pub mod Third
 pub mod Agree
 pub mod Inputs

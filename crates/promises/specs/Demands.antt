@@ -21,7 +21,7 @@ use Rattle.generate.specs.declared.State.{State}
 use Rattle.generate.specs.Feed.{fresh, feed}
 use Rattle.generate.specs.Chunks.{joined, feeds}
 use Rattle.options.specs.declared.Options.{Options}
-use Rattle.options.specs.Options.{flags, has, chosen}
+use Rattle.options.specs.Options.{flags, has, hasUnknownBit, chosen}
 use Rattle.finalize.specs.declared.Finalized.{Finalized}
 use Rattle.finalize.specs.Final.{isTooSmall, isThreeQuarterEmpty, isHalfEmpty, finalizedWith, finalized, digestOf}
 use Rattle.saltcurtain.specs.Entries.{digested}
@@ -84,8 +84,8 @@ abbrev pub usedOf : ℕ → List ℕ → List ℕ
 usedOf v bytes = take v (feed bytes (fresh v) .counters)
 
 -- the number under known flags: the length decides, then the third quartile, then the count of counters that are not 0
-unfoldable pub verdictWith : ℕ → Options → List ℕ → ℕ
-verdictWith v o bytes =
+unfoldable pub inputNumberWith : ℕ → Options → List ℕ → ℕ
+inputNumberWith v o bytes =
     cond (ltb (maximum v) (length bytes)) tooLargeInput
     (cond (isTooSmall v (length bytes) o) tooSmallInput
     (cond (isThreeQuarterEmpty (quartiles (usedOf v bytes)) o) threeQuarterEmpty
@@ -93,12 +93,12 @@ verdictWith v o bytes =
     done)))
 
 -- 10 and 6 before it
-unfoldable pub verdict : ℕ → ℕ → List ℕ → ℕ
-verdict v n bytes = cond (ltb 31 n) unknownOption (cond (known v) (verdictWith v (chosen n .options) bytes) unknownVariant)
+unfoldable pub inputNumber : ℕ → ℕ → List ℕ → ℕ
+inputNumber v n bytes = cond (hasUnknownBit n) unknownOption (cond (known v) (inputNumberWith v (chosen n .options) bytes) unknownVariant)
 
 -- each number is given exactly on its condition; 5 and 19 are no conditions of an input
 abbrev pub ExactNumbers : Type 0
-ExactNumbers = (v n : ℕ) (bytes : List ℕ) → digestOf v n bytes .number ≡ verdict v n bytes
+ExactNumbers = (v n : ℕ) (bytes : List ℕ) → digestOf v n bytes .number ≡ inputNumber v n bytes
 
 -- a refusal carries an all-zero digest
 abbrev pub ZeroBesideRefusal : Type 0

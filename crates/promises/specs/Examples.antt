@@ -38,5 +38,5 @@ examples =
     []
 
 -- every question's answer is the one beside it
-abbrev pub Marked : Type 0
-Marked = map (λ (e : Example). e .asked) examples ≡ map (λ (e : Example). e .answer) examples
+abbrev pub ExamplesHold : Type 0
+ExamplesHold = map (λ (e : Example). e .asked) examples ≡ map (λ (e : Example). e .answer) examples

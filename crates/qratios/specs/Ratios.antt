@@ -68,8 +68,8 @@ ratiosOf q1 q2 q3 =
     (record { number = unorderedQuartiles; ratios = recordOf nought nought })
 
 -- both ratios in one byte, by either path
-unfoldable pub byteOf : Bool → ℕ → ℕ → ℕ → ByteAnswer
-byteOf integer q1 q2 q3 =
+unfoldable pub byteAnswered : Bool → ℕ → ℕ → ℕ → ByteAnswer
+byteAnswered integer q1 q2 q3 =
     cond (ordered q1 q2 q3)
     (record { number = done; byte = ratiosByte integer q1 q2 q3 })
     (record { number = unorderedQuartiles; byte = 0 })

@@ -10,7 +10,7 @@ use lib.IntN.{ℤ}
 use lib.ListN.{length, take, set, getD, length-append, length-set}
 use lib.Seq.{take-all, take-suc, take-suc-set}
 use borrow.Author.Tests.{ltb-true, ltb-false, lt-ltb, le-ltb, ne-eqb}
-use Rattle.verdict.specs.Line.{verdictOf, verdictIn}
+use Rattle.replay_verdict.specs.Line.{verdictOf, verdictIn}
 use Rattle.reading.specs.declared.Got.{Got}
 use Rattle.reading.specs.Reading.{Read, Arrived, none, more}
 use Rattle.replay.specs.declared.Tally.{Tally}

@@ -10,7 +10,7 @@ use lib.IntN.{ℤ}
 use lib.ListN.{length, take}
 use Rattle.reading.specs.declared.Got.{Got}
 use Rattle.reading.specs.Reading.{Read, Arrived, OfKind}
-use Rattle.verdict.specs.Line.{verdictOf}
+use Rattle.replay_verdict.specs.Line.{verdictOf}
 use Rattle.replay.specs.declared.Tally.{Tally}
 use Rattle.replay.specs.declared.Turn.{Turn}
 

@@ -2,7 +2,7 @@
 // input that a rule makes, and has the answer. host/README.md says what stands in a line.
 //
 // What is written is a line for each of the first ten lines that differ or are malformed, and a last line that counts all. Proved is
-// that the counts are those of all bytes of all reads, in their order, each line judged as `verdict::judge` does.
+// that the counts are those of all bytes of all reads, in their order, each line judged as `replay_verdict::judge` does.
 ghost use mathlib.Core.Path.{_≡_};
 ghost use mathlib.Core.List.{[], _∷_};
 ghost use Prim.Native.Nat.{_+_, _%_, _^_};
@@ -49,7 +49,7 @@ fn take_line(line: &[u8], t: Tally) -> Tally
     ensures { λ r. ⌜ Goes (now (line .entry)) t (10 ∷ []) (now (line .entry)) r ⌝ }
 {
     let lines = std::num::wrapping_add_u64(t.lines, 1);
-    let verdict = verdict::judge(line, t.size);
+    let verdict = replay_verdict::judge(line, t.size);
     if verdict == 0 {
         return Tally {
             lines: lines,
