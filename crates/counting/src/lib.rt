@@ -47,7 +47,14 @@ fn increment_at(
 }
 
 // The six counters of a byte b4 that comes to a window.
-fn count(t: &[u8; 256], l: &[u8; 256], counters: &mut [u32; 256], variant: u32, w: Window, b4: u8)
+fn count_six(
+    t: &[u8; 256],
+    l: &[u8; 256],
+    counters: &mut [u32; 256],
+    variant: u32,
+    w: Window,
+    b4: u8,
+)
     requires table { ⌜ now t ≡ table ⌝ }
     requires last { ⌜ now l ≡ lasts variant ⌝ }
     ensures { λ _. ⌜ now (counters .exit) ≡ hit variant w (now (counters .entry)) b4 ⌝ }
@@ -74,7 +81,7 @@ fn slide(
     ensures { λ r. ⌜ Ran variant (b4 ∷ []) (now (counters .entry)) w (now (counters .exit)) r ⌝ }
 {
     let checksum = pearson::b_mapping(t, l, variant, 0, b4, w.b3, w.checksum);
-    count(t, l, counters, variant, w, b4);
+    count_six(t, l, counters, variant, w, b4);
     Window {
         checksum: checksum,
         b0: w.b1,

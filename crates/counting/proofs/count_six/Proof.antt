@@ -1,9 +1,9 @@
--- `counting::count` meets its contract: six increments in turn.
+-- `counting::count_six` meets its contract: six increments in turn.
 -- Assumes nothing.
 use Rattle.counting.proofs.Laws.{count-six}
 use borrow.Author.Needs.{needs}
-use Rattle.counting.proofs.count.Statement.{statement}
-use Rattle.counting.proofs.count.Tie as tie
+use Rattle.counting.proofs.count_six.Statement.{statement}
+use Rattle.counting.proofs.count_six.Tie as tie
 
 increment-at-requires : tie.Need-increment-at-requires
 increment-at-requires c κs = search needs
@@ -38,8 +38,8 @@ returns c =
     (five .increment-at5 .ensures)
     (c .increment-at6 .ensures)
 
-pub count-spec : {M : Type 1} → statement M
-count-spec =
+pub count-six-spec : {M : Type 1} → statement M
+count-six-spec =
     tie.close
     (tie.spec
     increment-at-requires
