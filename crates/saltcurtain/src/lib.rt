@@ -13,9 +13,9 @@ use generate::State;
 fn judge(variant: u32, options: u32, room: usize) -> u32
     ensures { λ r. ⌜ r ≡ argumentNumber variant options room ⌝ }
 {
-    let c = options::options_of(options);
-    if c.number != params::DONE {
-        return c.number;
+    let o = options::options_of(options);
+    if o.number != params::DONE {
+        return o.number;
     }
     let t = text::text_size(variant);
     if t.number != params::DONE {
@@ -158,6 +158,7 @@ pub extern "C" fn saltcurtain_length_code(n: u32, out: &mut [u32; 1]) -> u32
     if c.number != params::DONE {
         return c.number;
     }
-    *out = [c.code as u32];
+    let code = c.code as u32;
+    *out = [code];
     params::DONE
 }

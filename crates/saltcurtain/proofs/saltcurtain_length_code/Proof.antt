@@ -11,11 +11,11 @@ length-code-requires c κs = search needs
 returns : tie.Need-returns
 returns c = search (classed-refused, c .if1 .taken)
 
-cast-t5 : tie.Need-cast-t5
-cast-t5 c = search needs
+cast-code : tie.Need-cast-code
+cast-code c = search needs
 
 returns-2 : tie.Need-returns-2
 returns-2 c = search classed-done
 
 pub saltcurtain-length-code-spec : {M : Type 1} → statement M
-saltcurtain-length-code-spec = tie.close (tie.spec length-code-requires returns cast-t5 returns-2)
+saltcurtain-length-code-spec = tie.close (tie.spec length-code-requires returns cast-code returns-2)
