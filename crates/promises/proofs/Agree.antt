@@ -24,8 +24,8 @@ use Rattle.generate.proofs.Reached.{variant-stays}
 use Rattle.options.specs.declared.Options.{Options}
 use Rattle.options.specs.Options.{flags, has, chosen}
 use Rattle.finalize.specs.declared.Finalized.{Finalized}
-use Rattle.finalize.specs.Final.{countsAs, isTooSmall, isThreeQuarterEmpty, isHalfEmpty, replaced, digestBy, distributed, withCode, measured}
-use Rattle.finalize.specs.Final.{withLength, finalizedWith, finalizedBy, finalized, digestOf}
+use Rattle.finalize.specs.Final.{countsAs, isTooSmall, isThreeQuarterEmpty, isHalfEmpty, replaced, digestBy, distributed, withCode}
+use Rattle.finalize.specs.Final.{measured, withLength, finalizedWith, finalizedBy, finalized, digestOf}
 use Rattle.finalize.proofs.Laws.{replaced-ordered}
 use Rattle.promises.specs.Demands.{farBound, PathsAgree, NumbersAgree, PathsAgreeFarther, NumbersAgreeFarther}
 use Rattle.promises.proofs.Third.{bound-within, third-agreeing}

@@ -64,7 +64,8 @@ given-back v f lent true p m e =
 given-back v f lent false p m e = absurd (eqb-false (f .number) done p (rw p at e))
 
 -- where an argument was refused, likewise
-written-by : (v n : ℕ) (bytes lent : List ℕ) (b : Bool) → eqb (argumentNumber v n (length lent)) done ≡ b → digested v n bytes lent .number ≡ done
+written-by : (v n : ℕ) (bytes lent : List ℕ) (b : Bool)
+    → eqb (argumentNumber v n (length lent)) done ≡ b → digested v n bytes lent .number ≡ done
     → readOf v (take (textSize v) (digested v n bytes lent .destination)) ≡ record { number = done; digest = digestOf v n bytes .digest }
 unfolding digested
 written-by v n bytes lent true p e =

@@ -27,7 +27,8 @@ use Rattle.generate.proofs.Chunks.{feeds-joined}
 use Rattle.options.specs.declared.Options.{Options}
 use Rattle.options.specs.Options.{flags, has, chosen}
 use Rattle.finalize.specs.declared.Finalized.{Finalized}
-use Rattle.finalize.specs.Final.{refused, countsAs, isTooLarge, isTooSmall, isThreeQuarterEmpty, isHalfEmpty, replaced, digestBy, distributed, withCode, measured, withLength, finalizedWith, finalizedBy, finalized, digestOf}
+use Rattle.finalize.specs.Final.{refused, countsAs, isTooLarge, isTooSmall, isThreeQuarterEmpty, isHalfEmpty, replaced, digestBy}
+use Rattle.finalize.specs.Final.{distributed, withCode, measured, withLength, finalizedWith, finalizedBy, finalized, digestOf}
 use Rattle.promises.specs.Demands.{AnyCutting, usedOf, inputNumberWith, inputNumber, ExactNumbers, ZeroBesideRefusal}
 
 -- any cutting
@@ -39,7 +40,11 @@ any-cutting v n chunks = ap (λ (s : State). finalized s n) (feeds-joined chunks
 
 -- the number of four tests in a row
 four : (a b c e : Bool) (d : Digest)
-    → cond a (refused tooLargeInput) (cond b (refused tooSmallInput) (cond c (refused threeQuarterEmpty) (cond e (refused halfEmpty) (record { number = done; digest = d })))) .number
+    → cond a (refused tooLargeInput)
+    (cond b (refused tooSmallInput)
+    (cond c (refused threeQuarterEmpty)
+    (cond e (refused halfEmpty)
+    (record { number = done; digest = d })))) .number
     ≡ cond a tooLargeInput (cond b tooSmallInput (cond c threeQuarterEmpty (cond e halfEmpty done)))
 four true b c e d = refl
 four false true c e d = refl
@@ -64,7 +69,8 @@ module _ (n : ℕ) (s : State) (o : Options) where
   steps-by (yes l) = rw (lt-ltb (maximum (s .variant)) n l)
   steps-by (no l) =
       rw (has-code n (omega arith) .given)
-      (four (ltb (maximum (s .variant)) n) (isTooSmall (s .variant) n o) (isThreeQuarterEmpty (quartiles used) o) (isHalfEmpty used (s .variant) o)
+      (four (ltb (maximum (s .variant)) n) (isTooSmall (s .variant) n o)
+      (isThreeQuarterEmpty (quartiles used) o) (isHalfEmpty used (s .variant) o)
       (digestBy (replaced (quartiles used)) used (s .variant) (s .checksum) (coded n .code) (o .integer)))
 
   steps : Steps
@@ -125,9 +131,9 @@ zero-distributed used v checksum code o =
     zero-either (isThreeQuarterEmpty (quartiles used) o) (refused threeQuarterEmpty) (cond (isHalfEmpty used v o) (refused halfEmpty) r)
     (zero-refused threeQuarterEmpty) (zero-either (isHalfEmpty used v o) (refused halfEmpty) r (zero-refused halfEmpty) (zero-done d))
 
-zero-classed : (l : Coded) (s : State) (o : Options) → Zero (withCode l s o)
+zero-code : (l : Coded) (s : State) (o : Options) → Zero (withCode l s o)
 unfolding withCode
-zero-classed l s o =
+zero-code l s o =
     let used = take (s .variant) (s .counters) in
     zero-either (eqb (l .number) done) (distributed used (s .variant) (s .checksum) (l .code) o) (refused (l .number))
     (zero-distributed used (s .variant) (s .checksum) (l .code) o) (zero-refused (l .number))
@@ -135,18 +141,21 @@ zero-classed l s o =
 zero-measured : (n : ℕ) (s : State) (o : Options) → Zero (measured n s o)
 unfolding measured
 zero-measured n s o =
-    zero-either (isTooLarge (s .variant) n) (refused tooLargeInput) (cond (isTooSmall (s .variant) n o) (refused tooSmallInput) (withCode (coded n) s o))
+    zero-either (isTooLarge (s .variant) n) (refused tooLargeInput)
+    (cond (isTooSmall (s .variant) n o) (refused tooSmallInput) (withCode (coded n) s o))
     (zero-refused tooLargeInput)
-    (zero-either (isTooSmall (s .variant) n o) (refused tooSmallInput) (withCode (coded n) s o) (zero-refused tooSmallInput) (zero-classed (coded n) s o))
+    (zero-either (isTooSmall (s .variant) n o) (refused tooSmallInput) (withCode (coded n) s o)
+    (zero-refused tooSmallInput) (zero-code (coded n) s o))
 
-zero-lengthed : (a : LengthAnswer) (s : State) (o : Options) → Zero (withLength a s o)
+zero-length : (a : LengthAnswer) (s : State) (o : Options) → Zero (withLength a s o)
 unfolding withLength
-zero-lengthed a s o =
-    zero-either (eqb (a .number) done) (measured (countsAs a) s o) (refused (a .number)) (zero-measured (countsAs a) s o) (zero-refused (a .number))
+zero-length a s o =
+    zero-either (eqb (a .number) done) (measured (countsAs a) s o) (refused (a .number))
+    (zero-measured (countsAs a) s o) (zero-refused (a .number))
 
 -- of every state, also one that no bytes reach
 pub zero-beside-refusal : ZeroBesideRefusal
 unfolding finalized finalizedBy finalizedWith
 zero-beside-refusal s n =
     zero-either (eqb (chosen n .number) done) (withLength (processed s) s (chosen n .options)) (refused (chosen n .number))
-    (zero-lengthed (processed s) s (chosen n .options)) (zero-refused (chosen n .number)) .zero
+    (zero-length (processed s) s (chosen n .options)) (zero-refused (chosen n .number)) .zero
