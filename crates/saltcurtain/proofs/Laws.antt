@@ -209,9 +209,9 @@ module _ (v : ℕ) (text lent : List ℕ) (t : SizeAnswer) (f : t ≡ sizeOf v) 
 -- ---- the ratio record
 module _ (q1 q2 q3 : ℕ) (a : RatiosAnswer) (lent : List ℕ) (e : a ≡ ratiosOf q1 q2 q3) where
   -- 11
-  pub ratioed-refused : (a .number ≡ 0 → ⊥) → Written (a .number) lent (ratiosWritten q1 q2 q3 lent)
+  pub ratios-refused : (a .number ≡ 0 → ⊥) → Written (a .number) lent (ratiosWritten q1 q2 q3 lent)
   unfolding ratiosWritten
-  ratioed-refused z = rw (← e, ne-eqb (a .number) 0 z) (record { answered = refl; left = refl })
+  ratios-refused z = rw (← e, ne-eqb (a .number) 0 z) (record { answered = refl; left = refl })
 
   in-order-by : (b : Bool) → ordered q1 q2 q3 ≡ b → a .number ≡ 0 → ordered q1 q2 q3 ≡ true
   unfolding ratiosOf
@@ -238,20 +238,20 @@ module _ (q1 q2 q3 : ℕ) (a : RatiosAnswer) (lent : List ℕ) (e : a ≡ ratios
     second-number = rw (e, o) (t2 .no-nan)
 
     -- the four numbers
-    pub ratioed-done : Written done
+    pub ratios-done : Written done
         (toBits binary32 (a .ratios .quotient1) ∷ toBits binary32 (a .ratios .quotient2) ∷ a .ratios .whole1 ∷ a .ratios .whole2 ∷ [])
         (ratiosWritten q1 q2 q3 lent)
     unfolding ratiosWritten ratiosOf
-    ratioed-done = rw (e, o) (record { answered = refl; left = rw (t1 .back, t2 .back) })
+    ratios-done = rw (e, o) (record { answered = refl; left = rw (t1 .back, t2 .back) })
 
 -- ---- the code of a length
 module _ (n : ℕ) (c : Coded) (lent : List ℕ) (e : c ≡ coded n) where
   -- 5
-  pub classed-refused : (c .number ≡ 0 → ⊥) → Written (c .number) lent (codeWritten n lent)
+  pub code-refused : (c .number ≡ 0 → ⊥) → Written (c .number) lent (codeWritten n lent)
   unfolding codeWritten
-  classed-refused z = rw (← e, ne-eqb (c .number) 0 z) (record { answered = refl; left = refl })
+  code-refused z = rw (← e, ne-eqb (c .number) 0 z) (record { answered = refl; left = refl })
 
   -- the code
-  pub classed-done : c .number ≡ 0 → Written done (c .code ∷ []) (codeWritten n lent)
+  pub code-done : c .number ≡ 0 → Written done (c .code ∷ []) (codeWritten n lent)
   unfolding codeWritten
-  classed-done z = rw (← e, eq-eqb (c .number) 0 z) (record { answered = refl; left = refl })
+  code-done z = rw (← e, eq-eqb (c .number) 0 z) (record { answered = refl; left = refl })
