@@ -1,5 +1,5 @@
 -- What the program promises of its reading: the state that it holds is what all bytes of its reads come to, those of each read in full and
--- in order (document 01, Numbers for every answer: a program reads standard input in blocks). Standard input is file descriptor 0.
+-- in order (docs/RULES.md, section 8). Standard input is file descriptor 0.
 -- Assumes nothing.
 use Prim.Native.Nat.{ℕ, _≤_, _^_}
 use mathlib.Core.Path.{_≡_}

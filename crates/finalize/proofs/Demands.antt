@@ -67,9 +67,9 @@ module _ (s : State) (o : Options) (wide : length (s .counters) ≡ 256) (small 
   used-all = simp length-take (omega (arith, wide, known-most (s .variant) k))
 
   -- steps 2 to 7: a length up to the maximum has a code, which is a byte
-  gives-classed : (n : ℕ) → isTooLarge (s .variant) n ≡ false → Gives (s .variant) (withCode (coded n) s o)
+  gives-code : (n : ℕ) → isTooLarge (s .variant) n ≡ false → Gives (s .variant) (withCode (coded n) s o)
   unfolding withCode isTooLarge maximum
-  gives-classed n e =
+  gives-code n e =
       let v = s .variant in
       let used = take v (s .counters) in
       let c = has-code n (ltb-false (maximum v) n e) .small in
@@ -86,7 +86,7 @@ module _ (s : State) (o : Options) (wide : length (s .counters) ≡ 256) (small 
       gives-by v (isTooLarge v n) (refused tooLargeInput) (cond (isTooSmall v n o) (refused tooSmallInput) r)
       (λ e. gives-refused v tooLargeInput (λ z. omega arith))
       (λ e. gives-by v (isTooSmall v n o) (refused tooSmallInput) r (λ h. gives-refused v tooSmallInput (λ z. omega arith))
-      (λ h. gives-classed n e))
+      (λ h. gives-code n e))
 
 -- 6 and 19 before them
 gives-with : (s : State) (o : Options) → length (s .counters) ≡ 256 → s .checksum < 256 → Gives (s .variant) (finalizedWith s o)
