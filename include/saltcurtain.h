@@ -5,8 +5,8 @@
  *    0  done
  *    1  the input is longer than the variant takes
  *    2  the input is shorter than the variant and the mode take
- *    3  three quarters of the counters are empty (a dead file gets this)
- *    4  half of the counters are empty
+ *    3  the third quartile is 0: at most 12 of 48, 32 of 128 or 64 of 256 counters are other than 0
+ *    4  too few counters are other than 0: fewer than 18 of 48, 65 of 128 or 129 of 256
  *    5  no length code
  *    6  the variant is not 48, 128 or 256
  *    7  the destination is shorter than the text
@@ -17,7 +17,11 @@
  *
  * variant   48 (short), 128 (normal) or 256 (long): the number of used buckets
  * options   added: 1 conservative minimum lengths, 2 integer ratios, and three that let through what is refused otherwise:
- *           4 small files, 8 half empty counters, 16 three quarters empty counters. 0 is the default.
+ *           4 what gets 2, 8 what gets 4, 16 what gets 3 or 4. 0 is the default.
+ *
+ * A file that repeats the same p bytes hits at most 6 p counters. Where its length is taken and option 16 is clear, it gets 3 for p
+ * up to 2 in the short variant, 5 in the normal one and 10 in the long one. A longer p may get a digest: 2,000 lines of 9999, which
+ * repeat 5 bytes, get one in the short variant at every option.
  *
  * A slice is a pointer and a number of bytes. A null pointer is allowed where the number is 0. What a caller has to see to, and
  * no function can judge: a slice's bytes can be read, a destination's can be written, and a destination overlaps no other

@@ -79,8 +79,8 @@ impl fmt::Display for Error {
         to.write_str(match self {
             Self::TooLargeInput => "the input is too long",
             Self::TooSmallInput => "the input is too short",
-            Self::BucketsAreThreeQuarterEmpty => "about three quarters of the buckets are empty",
-            Self::BucketsAreHalfEmpty => "about half of the buckets are empty",
+            Self::BucketsAreThreeQuarterEmpty => "the third quartile of the buckets is 0",
+            Self::BucketsAreHalfEmpty => "too few buckets are in use",
             Self::NoLengthCode => "no code stands for that length",
             Self::UnknownVariant => "there is no variant with that number of buckets",
             Self::ShortDestination => "the destination is shorter than the text",

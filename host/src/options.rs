@@ -1,7 +1,11 @@
 //! The options of a digest.
 use crate::Error;
 
-/// What a digest allows and how it takes its ratios. [`Options::new`] has none set: that is TLSH as its first tool has it.
+/// What a digest allows and how it takes its ratios.
+///
+/// [`Options::new`] has none set, as `GeneratorOptions::new()` of fast-tlsh. By that crate's documents the official tool has had
+/// other defaults in its time: the conservative least lengths were its default once and are no longer, and it takes ratios in
+/// single precision up to version 4.12.0 and in whole numbers from 4.12.1 on.
 ///
 /// ```
 /// use saltcurtain::Options;
@@ -32,12 +36,12 @@ impl Options {
         self.with(4, on)
     }
 
-    /// Give digests where about half of the buckets are empty too.
+    /// Give digests also where fewer than 18 of 48, 65 of 128 or 129 of 256 buckets are in use (refusal 4).
     pub const fn half(self, on: bool) -> Self {
         self.with(8, on)
     }
 
-    /// Give digests where about three quarters of the buckets are empty too.
+    /// Give digests also where the third quartile of the buckets is 0 (refusal 3), and where too few are in use (refusal 4).
     pub const fn quarter(self, on: bool) -> Self {
         self.with(16, on)
     }

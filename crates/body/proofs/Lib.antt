@@ -1,3 +1,4 @@
 pub mod Laws
 pub mod Padded
 pub mod Shape
+mod Unique

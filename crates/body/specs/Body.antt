@@ -1,4 +1,4 @@
--- The body (document 01, Finalizing, step 7): a two-bit code for each used counter, four to a byte.
+-- The body (docs/RULES.md, section 4, step 7): a two-bit code for each used counter, four to a byte.
 -- Assumes nothing.
 use mathlib.Core.Bool.{cond}
 use mathlib.Core.List.{List, [], _∷_, _++_}

@@ -1,42 +1,51 @@
 // The digest of standard input: the normal variant's text at options 0, or `refused` and the number, and a line feed.
 //
-// The input is read in blocks of at most 64 KiB to its end. No contract can say which bytes came; what is proved is that the state
-// is the one that some bytes lead to, and that the answer is the one that finalizing gives for it.
+// The input is read in blocks of at most 64 KiB to its end. Proved is that the state is the one that all bytes of all reads lead to,
+// in their order, where the last read met the end or failed, and that the answer is the one that finalizing gives for that state.
 ghost use mathlib.Core.Path.{_≡_};
+ghost use Prim.Native.Nat.{_+_, _%_, _^_};
 ghost use lib.ListN.{replicate};
 ghost use Rattle.text.specs.Text.{Written};
 ghost use Rattle.finalize.specs.Final.{finalized};
 ghost use Rattle.saltcurtain.specs.Entries.{given};
-ghost use Rattle.digest.specs.Reading.{Turned, Ended};
+ghost use Rattle.digest.specs.Turns.{Turned, Ended};
 use generate::State;
-use libc::STDOUT_FILENO;
+
+// The file descriptors that a program has from its start.
+const INPUT: i32 = 0;
+
+const OUTPUT: i32 = 1;
+
+const ERRORS: i32 = 2;
 
 // As many blocks of a byte or more as a state can take bytes: what comes after them changes nothing.
 const BLOCKS: u64 = 4_294_967_296;
 
-// What one read, or all of them, came to: 0 more may follow, 1 the end, 2 a read that failed.
+// What one read, or all of them, came to, by the kinds of `reading`, and the state.
 struct Turn {
     pub kind: u32,
     pub state: State,
 }
 
-// One read, and the state after its bytes.
-fn one(s: State) -> Turn
-    ensures { λ r. ⌜ Turned s r ⌝ }
+// One read, and the state after its bytes. `reads` counts the reads.
+fn one(s: State, reads: &mut u64) -> Turn
+    ensures { λ r. ⌜ Turned (now (reads .entry)) s r ⌝ }
+    ensures { λ r. ⌜ now (reads .exit) ≡ (now (reads .entry) + 1) % 2 ^ 64 ⌝ }
 {
     let mut block = io::large_buffer();
-    let got = libc::read(0, &mut block);
-    if got < 0 {
-        return Turn { kind: 2, state: s };
+    let got = reading::read_block(INPUT, reads, &mut block);
+    let kind = got.kind;
+    if kind != reading::MORE {
+        return Turn {
+            kind: kind,
+            state: s,
+        };
     }
-    let n = io::count(got, &block);
-    if n == 0 {
-        return Turn { kind: 1, state: s };
-    }
+    let n = got.count;
     let u = generate::update(s, &block[..n]);
     let next = u.state;
     Turn {
-        kind: 0,
+        kind: kind,
         state: next,
     }
 }
@@ -48,18 +57,20 @@ fn all() -> Turn
     let fresh = generate::new(params::NORMAL);
     let start = fresh.state;
     let mut s = start;
-    let mut left = BLOCKS;
-    while left > 0 {
-        let t = one(s);
+    let mut reads = 0u64;
+    while reads < BLOCKS {
+        let t = one(s, &mut reads);
         let kind = t.kind;
-        if kind != 0 {
+        if kind != reading::MORE {
             return t;
         }
         let next = t.state;
         s = next;
-        left -= 1;
     }
-    Turn { kind: 0, state: s }
+    Turn {
+        kind: reading::MORE,
+        state: s,
+    }
 }
 
 // The number of the answer, and the text, all zero beside a refusal.
@@ -91,26 +102,26 @@ fn answer_for(s: State) -> Answer
 fn main() {
     if os::arg_count() > 1 {
         io::write_all(
-            2,
+            ERRORS,
             b"digest: takes no argument; it reads standard input: digest < FILE\n",
         );
         return;
     }
     let t = all();
     let kind = t.kind;
-    if kind == 2 {
-        io::write_all(2, b"digest: standard input cannot be read\n");
+    if kind == reading::FAILED {
+        io::write_all(ERRORS, b"digest: standard input cannot be read\n");
         return;
     }
     let s = t.state;
     let a = answer_for(s);
     if a.number != params::DONE {
-        io::write_all(STDOUT_FILENO, b"refused ");
-        io::print_decimal(STDOUT_FILENO, a.number as u64);
-        io::write_all(STDOUT_FILENO, b"\n");
+        io::write_all(OUTPUT, b"refused ");
+        io::print_decimal(OUTPUT, a.number as u64);
+        io::write_all(OUTPUT, b"\n");
         return;
     }
     let text = a.text;
-    io::write_all(STDOUT_FILENO, &text);
-    io::write_all(STDOUT_FILENO, b"\n");
+    io::write_all(OUTPUT, &text);
+    io::write_all(OUTPUT, b"\n");
 }

@@ -19,7 +19,7 @@ use Rattle.quartile.specs.Quartile.{quartiles}
 use Rattle.quartile.specs.Counts.{nonZero}
 use Rattle.quartile.proofs.Three.{quartiles-ordered}
 use Rattle.qratios.specs.declared.ByteAnswer.{ByteAnswer}
-use Rattle.qratios.specs.Ratios.{ordered, byteOf, ratiosByte}
+use Rattle.qratios.specs.Ratios.{ordered, byteAnswered, ratiosByte}
 use Rattle.qratios.proofs.Answers.{in-order}
 use Rattle.body.specs.Body.{bodyOf}
 use Rattle.hash.specs.declared.Digest.{Digest}
@@ -31,7 +31,8 @@ use Rattle.options.specs.declared.Options.{Options}
 use Rattle.options.specs.declared.Chosen.{Chosen}
 use Rattle.options.specs.Options.{chosen}
 use Rattle.finalize.specs.declared.Finalized.{Finalized}
-use Rattle.finalize.specs.Final.{refused, isTooLarge, isTooSmall, isThreeQuarterEmpty, replaced, leastNonZero, isHalfEmpty, digestBy, distributed, classed, measured, lengthed, finalizedWith, finalizedBy, finalized}
+use Rattle.finalize.specs.Final.{refused, isTooLarge, isTooSmall, isThreeQuarterEmpty, replaced, leastNonZero, isHalfEmpty}
+use Rattle.finalize.specs.Final.{digestBy, distributed, withCode, measured, withLength, finalizedWith, finalizedBy, finalized}
 
 -- ---- too small
 
@@ -94,7 +95,8 @@ module _ (used : List ℕ) (v : ℕ) (o : Options) where
   unfolding isHalfEmpty
   half-quarter e f = rw (e, f)
 
-  pub half-tested : (n m : ℕ) → o .half ≡ false → o .quarter ≡ false → n ≡ nonZero used → m ≡ leastNonZero v → ltb n m ≡ isHalfEmpty used v o
+  pub half-tested : (n m : ℕ) → o .half ≡ false → o .quarter ≡ false → n ≡ nonZero used → m ≡ leastNonZero v
+      → ltb n m ≡ isHalfEmpty used v o
   unfolding isHalfEmpty
   half-tested n m e f p q = rw (e, f, p, q)
 
@@ -115,13 +117,14 @@ replaced-ordered used q r e f =
 
 -- the record is made of its parts
 pub digest-made : (q : Quartiles) (used : List ℕ) (v checksum code : ℕ) (i : Bool) (r : ByteAnswer) (body : List ℕ)
-    → ordered (q .q1) (q .q2) (q .q3) ≡ true → r ≡ byteOf i (q .q1) (q .q2) (q .q3) → body ≡ bodyOf q used
+    → ordered (q .q1) (q .q2) (q .q3) ≡ true → r ≡ byteAnswered i (q .q1) (q .q2) (q .q3) → body ≡ bodyOf q used
     → record { body = body; variant = v; checksum = checksum; «length_code» = code; ratios = r .byte } ≡ digestBy q used v checksum code i
-unfolding digestBy byteOf
+unfolding digestBy byteAnswered
 digest-made q used v checksum code i r body o e f = rw (f, e, o)
 
 -- ---- steps 3 to 7
-module _ (used : List ℕ) (v checksum code : ℕ) (o : Options) (q : Quartiles) (b : Bool) (e : q ≡ quartiles used) (f : b ≡ isThreeQuarterEmpty q o) where
+module _ (used : List ℕ) (v checksum code : ℕ) (o : Options)
+    (q : Quartiles) (b : Bool) (e : q ≡ quartiles used) (f : b ≡ isThreeQuarterEmpty q o) where
   third : b ≡ isThreeQuarterEmpty (quartiles used) o
   third = f ∙ ap (λ (z : Quartiles). isThreeQuarterEmpty z o) e
 
@@ -131,12 +134,14 @@ module _ (used : List ℕ) (v checksum code : ℕ) (o : Options) (q : Quartiles)
   distributed-three r t g = rw (g, ← third, t)
 
   -- the count refuses
-  pub distributed-half : (h : Bool) (r : Finalized) → b ≡ false → h ≡ isHalfEmpty used v o → h ≡ true → r ≡ refused halfEmpty → r ≡ distributed used v checksum code o
+  pub distributed-half : (h : Bool) (r : Finalized) → b ≡ false → h ≡ isHalfEmpty used v o → h ≡ true → r ≡ refused halfEmpty
+      → r ≡ distributed used v checksum code o
   unfolding distributed
   distributed-half h r t g u k = rw (k, ← third, t, ← g, u)
 
   -- nothing refuses
-  pub distributed-done : (h : Bool) (d : Digest) (c : Quartiles) → b ≡ false → h ≡ isHalfEmpty used v o → h ≡ false → c ≡ replaced q → d ≡ digestBy c used v checksum code (o .integer)
+  pub distributed-done : (h : Bool) (d : Digest) (c : Quartiles) → b ≡ false → h ≡ isHalfEmpty used v o → h ≡ false → c ≡ replaced q
+      → d ≡ digestBy c used v checksum code (o .integer)
       → record { number = done; digest = d } ≡ distributed used v checksum code o
   unfolding distributed
   distributed-done h d c t g u k l = rw (l, k, e, ← third, t, ← g, u)
@@ -159,19 +164,20 @@ module _ (n : ℕ) (s : State) (o : Options) (l : Limits) (k : known (s .variant
     unfolding measured isTooLarge
     measured-small r t f = rw (f, fits, ← g, t)
 
-    pub measured-uncoded : (c : Coded) (r : Finalized) → b ≡ false → c ≡ coded n → (c .number ≡ 0 → ⊥) → r ≡ refused (c .number) → r ≡ measured n s o
-    unfolding measured isTooLarge classed
+    pub measured-uncoded : (c : Coded) (r : Finalized) → b ≡ false → c ≡ coded n → (c .number ≡ 0 → ⊥)
+        → r ≡ refused (c .number) → r ≡ measured n s o
+    unfolding measured isTooLarge withCode
     measured-uncoded c r t p z f = rw (f, fits, ← g, t, ← p, ne-eqb (c .number) 0 z)
 
     pub measured-coded : (c : Coded) (r : Finalized) → b ≡ false → c ≡ coded n → c .number ≡ 0
         → r ≡ distributed (take (s .variant) (s .counters)) (s .variant) (s .checksum) (c .code) o → r ≡ measured n s o
-    unfolding measured isTooLarge classed
+    unfolding measured isTooLarge withCode
     measured-coded c r t p z f = rw (f, fits, ← g, t, ← p, eq-eqb (c .number) 0 z)
 
 -- ---- the refusals before the steps
 
 -- a processed length is given for a known variant alone
-length-known : (s : State) (k : Bool) → known (s .variant) ≡ k → processed s .number ≡ 0 → known (s .variant) ≡ true
+pub length-known : (s : State) (k : Bool) → known (s .variant) ≡ k → processed s .number ≡ 0 → known (s .variant) ≡ true
 unfolding processed
 length-known s true p e = p
 length-known s false p e = absurd (omega (arith, rw p at e))
@@ -188,31 +194,33 @@ module _ (s : State) (p : Processed) (e : answerOf p ≡ processed s) where
   unknown-known t = length-known s (known (s .variant)) refl (number-is ∙ ap (λ (x : Processed). answerOf x .number) t)
 
   module _ (o : Options) (r : Finalized) where
-    by-case : r ≡ lengthed (answerOf p) s o → r ≡ finalizedWith s o
+    by-case : r ≡ withLength (answerOf p) s o → r ≡ finalizedWith s o
     unfolding finalizedWith
-    by-case f = f ∙ ap (λ (a : LengthAnswer). lengthed a s o) e
+    by-case f = f ∙ ap (λ (a : LengthAnswer). withLength a s o) e
 
     pub with-variant : p ≡ UnknownVariant → r ≡ refused unknownVariant → r ≡ finalizedWith s o
-    unfolding lengthed
+    unfolding withLength
     with-variant t f = by-case (rw (f, t))
 
     pub with-state : p ≡ UnreachedState → r ≡ refused unreachedState → r ≡ finalizedWith s o
-    unfolding lengthed
+    unfolding withLength
     with-state t f = by-case (rw (f, t))
 
     pub with-unknown : p ≡ Unknown → r ≡ measured 4_294_967_295 s o → r ≡ finalizedWith s o
-    unfolding lengthed
+    unfolding withLength
     with-unknown t f = by-case (rw (f, t))
 
     pub with-known : (n : ℕ) → p ≡ Known n → r ≡ measured n s o → r ≡ finalizedWith s o
-    unfolding lengthed
+    unfolding withLength
     with-known n t f = by-case (rw (f, t))
 
 -- the option number refuses, or gives the flags
-pub finalized-refused : (s : State) (n : ℕ) (c : Chosen) (r : Finalized) → c ≡ chosen n → (c .number ≡ 0 → ⊥) → r ≡ refused (c .number) → r ≡ finalized s n
+pub finalized-refused : (s : State) (n : ℕ) (c : Chosen) (r : Finalized) → c ≡ chosen n → (c .number ≡ 0 → ⊥)
+    → r ≡ refused (c .number) → r ≡ finalized s n
 unfolding finalized finalizedBy
 finalized-refused s n c r e z f = rw (f, ← e, ne-eqb (c .number) 0 z)
 
-pub finalized-done : (s : State) (n : ℕ) (c : Chosen) (r : Finalized) → c ≡ chosen n → c .number ≡ 0 → r ≡ finalizedWith s (c .options) → r ≡ finalized s n
+pub finalized-done : (s : State) (n : ℕ) (c : Chosen) (r : Finalized) → c ≡ chosen n → c .number ≡ 0
+    → r ≡ finalizedWith s (c .options) → r ≡ finalized s n
 unfolding finalized finalizedBy
 finalized-done s n c r e z f = rw (f, ← e, eq-eqb (c .number) 0 z)

@@ -1,4 +1,4 @@
--- Finalizing, in the order of its steps (document 01, Finalizing; Numbers for every answer). The state is only read.
+-- Finalizing, in the order of its steps (docs/RULES.md, sections 4 and 6). The state is only read.
 -- Assumes nothing.
 use Prim.Native.Nat.{ℕ}
 use mathlib.Core.Bool.{Bool, cond}
@@ -32,8 +32,8 @@ refused n = record { number = n; digest = zeroDigest }
 -- ---- 1. the length
 
 -- a processed length that is unknown counts as 4,294,967,295
-abbrev pub counts : LengthAnswer → ℕ
-counts a = cond (a .isKnown) (a .length) 4_294_967_295
+abbrev pub countsAs : LengthAnswer → ℕ
+countsAs a = cond (a .isKnown) (a .length) 4_294_967_295
 
 -- above the maximum, in either mode
 unfoldable pub isTooLarge : ℕ → ℕ → Bool
@@ -84,8 +84,8 @@ distributed used v checksum code o =
     (record { number = done; digest = digestBy (replaced (quartiles used)) used v checksum code (o .integer) }))
 
 -- step 2: the code of the length, or its refusal; then the steps after it, on the N used counters
-unfoldable pub classed : Coded → State → Options → Finalized
-classed l s o =
+unfoldable pub withCode : Coded → State → Options → Finalized
+withCode l s o =
     cond (eqb (l .number) done)
     (distributed (take (s .variant) (s .counters)) (s .variant) (s .checksum) (l .code) o)
     (refused (l .number))
@@ -95,15 +95,15 @@ unfoldable pub measured : ℕ → State → Options → Finalized
 measured n s o =
     cond (isTooLarge (s .variant) n) (refused tooLargeInput)
     (cond (isTooSmall (s .variant) n o) (refused tooSmallInput)
-    (classed (coded n) s o))
+    (withCode (coded n) s o))
 
 -- from what the processed length is: 6 for another variant, then 19 for a state that no bytes reach, then the steps
-unfoldable pub lengthed : LengthAnswer → State → Options → Finalized
-lengthed a s o = cond (eqb (a .number) done) (measured (counts a) s o) (refused (a .number))
+unfoldable pub withLength : LengthAnswer → State → Options → Finalized
+withLength a s o = cond (eqb (a .number) done) (measured (countsAs a) s o) (refused (a .number))
 
 -- a state under five flags
 unfoldable pub finalizedWith : State → Options → Finalized
-finalizedWith s o = lengthed (processed s) s o
+finalizedWith s o = withLength (processed s) s o
 
 -- 10 before them
 unfoldable pub finalizedBy : Chosen → State → Finalized

@@ -9,7 +9,8 @@ ghost use Prim.Native.Nat.{_≤_};
 ghost use lib.ListN.{length, take};
 ghost use Rattle.params.specs.Variants.{known};
 ghost use Rattle.qratios.specs.Ratios.{ordered};
-ghost use Rattle.finalize.specs.Final.{refused, isTooSmall, isThreeQuarterEmpty, replaced, leastNonZero, isHalfEmpty, digestBy, distributed, measured, finalizedWith, finalized};
+ghost use Rattle.finalize.specs.Final.{refused, isTooSmall, isThreeQuarterEmpty, replaced, leastNonZero, isHalfEmpty};
+ghost use Rattle.finalize.specs.Final.{digestBy, distributed, measured, finalizedWith, finalized};
 use generate::Processed;
 use generate::State;
 use hash::Digest;
@@ -26,9 +27,10 @@ pub struct Finalized {
 fn refuse(number: u32) -> Finalized
     ensures { λ r. ⌜ r ≡ refused number ⌝ }
 {
+    let digest = hash::zero_digest();
     Finalized {
         number: number,
-        digest: hash::zero_digest(),
+        digest: digest,
     }
 }
 
@@ -37,10 +39,10 @@ fn is_too_small(variant: u32, n: u32, o: Options) -> bool
     requires { ⌜ known variant ≡ true ⌝ }
     ensures { λ r. ⌜ r ≡ isTooSmall variant n o ⌝ }
 {
-    if o.small {
-        return false;
-    }
     let limits = length::limits_of(variant);
+    if o.small {
+        return false; // in either mode
+    }
     if o.conservative {
         return n < limits.minimum_conservative;
     }
@@ -84,9 +86,10 @@ fn least_non_zero(variant: u32) -> usize
     129
 }
 
-// Whether fewer used counters are not 0, and no option lifts that.
-fn is_half_empty(used: &[u32], variant: u32, o: Options) -> bool
-    ensures { λ r. ⌜ r ≡ isHalfEmpty (now (used .entry)) variant o ⌝ }
+// Whether fewer of the first n counters are not 0, and no option lifts that.
+fn is_half_empty(counters: &[u32], n: usize, variant: u32, o: Options) -> bool
+    requires { ⌜ (n ≤ 256) × (length (now counters) ≡ 256) ⌝ }
+    ensures { λ r. ⌜ r ≡ isHalfEmpty (take n (now (counters .entry))) variant o ⌝ }
 {
     if o.half {
         return false;
@@ -94,7 +97,7 @@ fn is_half_empty(used: &[u32], variant: u32, o: Options) -> bool
     if o.quarter {
         return false;
     }
-    quartile::non_zero(used) < least_non_zero(variant)
+    quartile::non_zero(&counters[..n]) < least_non_zero(variant)
 }
 
 // The digest of the used counters by quartiles in order.
@@ -120,15 +123,24 @@ fn digest_by(
     }
 }
 
-// Steps 3 to 7, on the used counters.
-fn distribute(used: &[u32], variant: u32, checksum: u8, code: u8, o: Options) -> Finalized
+// Steps 3 to 7, on the used counters, where `half` says whether too few of them are not 0.
+fn distribute(
+    used: &[u32],
+    half: bool,
+    variant: u32,
+    checksum: u8,
+    code: u8,
+    o: Options,
+) -> Finalized
+    requires { ⌜ half ≡ isHalfEmpty (now used) variant o ⌝ }
     ensures { λ r. ⌜ r ≡ distributed (now (used .entry)) variant checksum code o ⌝ }
 {
     let q = quartile::quartiles_of(used);
-    if is_three_quarter_empty(q, o) {
+    let three = is_three_quarter_empty(q, o);
+    if three {
         return refuse(params::THREE_QUARTER_EMPTY);
     }
-    if is_half_empty(used, variant, o) {
+    if half {
         return refuse(params::HALF_EMPTY);
     }
     let cuts = replace(q);
@@ -151,7 +163,8 @@ fn distribute_first(
     requires { ⌜ (n ≤ 256) × (length (now counters) ≡ 256) ⌝ }
     ensures { λ r. ⌜ r ≡ distributed (take n (now (counters .entry))) variant checksum code o ⌝ }
 {
-    distribute(&counters[..n], variant, checksum, code, o)
+    let half = is_half_empty(counters, n, variant, o);
+    distribute(&counters[..n], half, variant, checksum, code, o)
 }
 
 // Steps 1 to 7, at length n.

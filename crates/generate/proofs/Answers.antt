@@ -13,18 +13,18 @@ use Rattle.generate.specs.declared.State.{State}
 use Rattle.generate.specs.declared.Processed.{Processed}
 use Rattle.generate.specs.declared.Processed.the-variants.{Known, Unknown, UnknownVariant, UnreachedState}
 use Rattle.generate.specs.Feed.{fresh, feed}
-use Rattle.generate.specs.Answer.{marked, made, updated, LengthAnswer, answerOf, processed}
+use Rattle.generate.specs.Answer.{marked, newAnswer, updated, LengthAnswer, answerOf, processed}
 
 module _ (v : ℕ) (k : Bool) (e : k ≡ known v) (t : State) where
   -- another variant is refused with 6 and the all-zero record
-  pub made-unknown : not k ≡ true → t ≡ fresh 0 → record { number = unknownVariant; state = t } ≡ made v
-  unfolding made
-  made-unknown q p = rw (p, ← e, not-true k q)
+  pub new-unknown : not k ≡ true → t ≡ fresh 0 → record { number = unknownVariant; state = t } ≡ newAnswer v
+  unfolding newAnswer
+  new-unknown q p = rw (p, ← e, not-true k q)
 
   -- a known variant has its fresh state
-  pub made-done : not k ≡ false → t ≡ fresh v → record { number = done; state = t } ≡ made v
-  unfolding made
-  made-done q p = rw (p, ← e, not-false k q)
+  pub new-done : not k ≡ false → t ≡ fresh v → record { number = done; state = t } ≡ newAnswer v
+  unfolding newAnswer
+  new-done q p = rw (p, ← e, not-false k q)
 
 module _ (s : State) (k : Bool) (e : k ≡ known (s .variant)) where
   -- a state of another variant is refused with 6 and given back

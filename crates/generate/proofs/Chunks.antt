@@ -9,12 +9,13 @@ use Rattle.generate.specs.declared.State.{State}
 use Rattle.generate.specs.Feed.{feed}
 use Rattle.generate.specs.Answer.{marked, updated}
 use Rattle.generate.specs.Chunks.{joined, feeds, updates}
+use Rattle.generate.specs.Theorems.{FeedsJoined, UpdatedNone, UpdatesJoined, CuttingsAlike}
 use Rattle.generate.proofs.Step.{cut}
 use Rattle.generate.proofs.Marks.{fine-unmarked, unmarked-fine}
 use Rattle.generate.proofs.Reached.{feed-on}
 
 -- chunk upon chunk leads to the state that all bytes at once lead to, from any state
-pub feeds-joined : (xss : List (List ℕ)) (s : State) → feeds xss s ≡ feed (joined xss) s
+pub feeds-joined : FeedsJoined
 unfolding feeds joined feed
 feeds-joined [] s = refl
 feeds-joined (xs ∷ xss) s = feeds-joined xss (feed xs s) ∙ sym (cut xs (joined xss) s)
@@ -27,7 +28,7 @@ none-by s true false p q = rw (p, q)
 none-by s false m p q = rw p
 
 -- it leaves the state
-pub updated-none : (s : State) → s ≡ updated s [] .state
+pub updated-none : UpdatedNone
 updated-none s = none-by s (known (s .variant)) (marked (s .length) (s .«tail_len»)) refl refl
 
 -- two updates, their tests decided
@@ -45,12 +46,11 @@ pub two-updates : (s : State) (xs ys : List ℕ) → updated (updated s xs .stat
 two-updates s xs ys = two-by s xs ys (known (s .variant)) (marked (s .length) (s .«tail_len»)) refl refl
 
 -- so do updates with any list of chunks
-pub updates-joined : (s : State) (xs : List ℕ) (xss : List (List ℕ)) → updates s xs xss ≡ updated s (joined (xs ∷ xss))
+pub updates-joined : UpdatesJoined
 unfolding updates joined
 updates-joined s xs [] = rw (append-nil xs)
 updates-joined s xs (ys ∷ xss) = updates-joined (updated s xs .state) ys xss ∙ two-updates s xs (ys ++ joined xss)
 
 -- and so two cuttings of the same bytes are answered alike
-pub any-cutting : (s : State) (xs ys : List ℕ) (xss yss : List (List ℕ)) → joined (xs ∷ xss) ≡ joined (ys ∷ yss)
-    → updates s xs xss ≡ updates s ys yss
-any-cutting s xs ys xss yss e = updates-joined s xs xss ∙ ap (updated s) e ∙ sym (updates-joined s ys yss)
+pub cuttings-alike : CuttingsAlike
+cuttings-alike s xs ys xss yss e = updates-joined s xs xss ∙ ap (updated s) e ∙ sym (updates-joined s ys yss)

@@ -11,7 +11,7 @@ use lib.Seq.{getD-set-same, getD-set-other}
 use Rattle.params.specs.Words.{sum}
 use Rattle.pearson.specs.Mapping.{bucket}
 use Rattle.pearson.proofs.Values.{bucket-lt, bucket-short}
-use Rattle.leap.specs.Count.{bumpBy, bump, counted}
+use Rattle.counting.specs.Count.{bumpBy, bump, counted}
 use Rattle.generate.specs.declared.State.{State}
 use Rattle.generate.specs.Feed.{fresh, filled, slid, step, feed}
 use Rattle.generate.proofs.Step.{by-step, feed-keeps}

@@ -6,3 +6,4 @@ pub mod Reached
 pub mod Chunks
 mod Loops
 mod Parts
+mod Unique

@@ -9,8 +9,8 @@ use native.Mathlib.Omega.{arith}
 use native.Mathlib.Decide.{decLt}
 use lib.ListN.{length, take, drop, length-take, length-drop, drop-of-length-le}
 use lib.Seq.{sets, take-nil}
-use Rattle.leap.specs.declared.Window.{Window}
-use Rattle.leap.specs.Window.{moved, moves, hit, hits, Ran}
+use Rattle.counting.specs.declared.Window.{Window}
+use Rattle.counting.specs.Window.{moved, moves, hit, hits, Ran}
 use Rattle.generate.specs.declared.State.{State}
 use Rattle.generate.specs.declared.Cuts.{Cuts}
 use Rattle.generate.specs.Feed.{filled, slid, stop, feed}

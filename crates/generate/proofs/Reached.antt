@@ -1,9 +1,9 @@
--- The states that bytes reach from a fresh one: their counters, their length, their variant, and that none is refused.
+-- The states that bytes reach from a fresh one: their counters, their checksum, their length, their variant, and that none is refused.
 -- Assumes nothing.
 use mathlib.Core.Path.{_≡_, refl, _∙_, ap, sym}
-use mathlib.Core.Bool.{true, false}
+use mathlib.Core.Bool.{true}
 use mathlib.Core.List.{List, [], _∷_, _++_}
-use Prim.Native.Nat.{ℕ, _+_, _-_, _*_, _%_, _^_, _≤_, _<_, min}
+use Prim.Native.Nat.{ℕ, _+_, _-_, _^_, _≤_, _<_, min}
 use native.Mathlib.Omega.{arith}
 use native.Mathlib.Decide.{decLt}
 use lib.ListN.{length, getD, take, drop, length-take}
@@ -11,13 +11,15 @@ use lib.Seq.{take-all}
 use borrow.Author.Tests.{lt-ltb}
 use Rattle.params.specs.Variants.{known}
 use Rattle.params.specs.Answers.{done}
-use Rattle.params.specs.Words.{sum}
+use Rattle.pearson.proofs.Values.{bucket-lt}
+use Rattle.counting.specs.Count.{checked}
 use Rattle.generate.specs.declared.State.{State}
 use Rattle.generate.specs.Feed.{fresh, filled, slid, step, feed}
 use Rattle.generate.specs.declared.Processed.the-variants.{Known, Unknown}
-use Rattle.generate.specs.Answer.{marked, updated, total, answerOf, processed}
-use Rattle.generate.proofs.Step.{by-step, cut, cut-at, past-the-stop}
-use Rattle.generate.proofs.Marks.{Fine, fine-unmarked}
+use Rattle.generate.specs.Answer.{updated, total, answerOf, processed}
+use Rattle.generate.specs.Theorems.{Six, SixExact, Taken, ReachedUnmarked, ShortUnused, FirstBytesOnly, FullStays}
+use Rattle.generate.proofs.Step.{by-step, cut, cut-at, past-the-stop, feed-keeps}
+use Rattle.generate.proofs.Marks.{Fine, fine-unmarked, unmarked-fine}
 use Rattle.generate.proofs.Counters.{feed-sixfold, fresh-sixfold}
 
 -- n bytes have led from s to t: t has no mark, its variant is that of s, and its processed length is n more, up to 2^32
@@ -53,9 +55,27 @@ pub fresh-fine : (v : ℕ) → Fine (fresh v .length) (fresh v .«tail_len»)
 unfolding fresh
 fresh-fine v = record { few = omega arith; stops = omega arith; empty = λ h. refl }
 
--- without a mark, a state whose processed length is 2^32 is changed by no byte
-pub full-stays : (bs : List ℕ) (s : State) → Fine (s .length) (s .«tail_len») → total s ≡ 2 ^ 32 → feed bs s ≡ s
-full-stays bs s k e = past-the-stop bs s (omega (arith, k .stops)) (omega (arith, k .few))
+-- a checksum that is a byte stays one
+step-checksum : (s : State) (b : ℕ) → s .checksum < 256 → step s b .checksum < 256
+unfolding filled slid checked
+step-checksum s b k =
+    by-step s b (λ (t : State). t .checksum < 256) (λ h. k) (λ h l. bucket-lt (s .variant) 0 b _ (s .checksum)) (λ h l. k)
+
+-- without a mark, a state whose processed length is 2^32 is changed by no bytes
+fine-stays : (bs : List ℕ) (s : State) → Fine (s .length) (s .«tail_len») → total s ≡ 2 ^ 32 → feed bs s ≡ s
+fine-stays bs s k e = past-the-stop bs s (omega (arith, k .stops)) (omega (arith, k .few))
+
+-- the same, where the test finds no mark
+pub full-stays : FullStays
+full-stays bs s m e = fine-stays bs s (unmarked-fine (s .length) (s .«tail_len») m) e
+
+-- the counters sum, modulo 2^32, to six times the length field
+pub six : Six
+six v bs = feed-sixfold bs (fresh v) (fresh-sixfold v) .rolled
+
+-- exactly, where that is below 2^32
+pub six-exact : SixExact
+six-exact v bs = feed-sixfold bs (fresh v) (fresh-sixfold v) .exact
 
 module _ (v : ℕ) (bs : List ℕ) where
   -- there are 256 counters
@@ -66,13 +86,10 @@ module _ (v : ℕ) (bs : List ℕ) where
   pub counters-small : (i : ℕ) → getD (feed bs (fresh v) .counters) i 0 < 2 ^ 32
   counters-small = feed-sixfold bs (fresh v) (fresh-sixfold v) .small
 
-  -- the counters sum, modulo 2^32, to six times the length field
-  pub six : sum (feed bs (fresh v) .counters) % 2 ^ 32 ≡ (6 * feed bs (fresh v) .length) % 2 ^ 32
-  six = feed-sixfold bs (fresh v) (fresh-sixfold v) .rolled
-
-  -- exactly, where that is below 2^32
-  pub six-exact : 6 * feed bs (fresh v) .length < 2 ^ 32 → sum (feed bs (fresh v) .counters) ≡ 6 * feed bs (fresh v) .length
-  six-exact = feed-sixfold bs (fresh v) (fresh-sixfold v) .exact
+  -- the checksum is a byte
+  pub checksum-small : feed bs (fresh v) .checksum < 256
+  unfolding fresh
+  checksum-small = feed-keeps (λ (s : State). s .checksum < 256) step-checksum bs (fresh v) (omega arith)
 
   -- bytes lead on from a fresh state
   reached : Onward (length bs) (fresh v) (feed bs (fresh v))
@@ -83,22 +100,22 @@ module _ (v : ℕ) (bs : List ℕ) where
   unfolding fresh
   variant-stays = reached .same
 
-  -- no mark is reached
-  pub reached-unmarked : marked (feed bs (fresh v) .length) (feed bs (fresh v) .«tail_len») ≡ false
-  reached-unmarked = fine-unmarked _ _ (reached .fine)
+-- no mark is reached
+pub reached-unmarked : ReachedUnmarked
+reached-unmarked v bs = fine-unmarked _ _ (reached v bs .fine)
 
-  -- the processed length is the number of bytes, up to 2^32
-  pub taken : total (feed bs (fresh v)) ≡ min (2 ^ 32) (length bs)
-  unfolding fresh
-  taken = omega (arith, reached .more)
+-- the processed length is the number of bytes, up to 2^32
+pub taken : Taken
+unfolding fresh
+taken v bs = omega (arith, reached v bs .more)
 
-  -- the length field is at most four less than the number of bytes
-  pub four-less : feed bs (fresh v) .length ≤ length bs - 4
-  four-less = by (decLt (feed bs (fresh v) .«tail_len») 4)
-    where
-      by : Dec (feed bs (fresh v) .«tail_len» < 4) → feed bs (fresh v) .length ≤ length bs - 4
-      by (yes h) = omega (arith, reached .fine .empty h)
-      by (no h) = omega (arith, taken)
+-- the length field is at most four less than the number of bytes
+pub four-less : (v : ℕ) (bs : List ℕ) → feed bs (fresh v) .length ≤ length bs - 4
+four-less v bs = by (decLt (feed bs (fresh v) .«tail_len») 4)
+  where
+    by : Dec (feed bs (fresh v) .«tail_len» < 4) → feed bs (fresh v) .length ≤ length bs - 4
+    by (yes h) = omega (arith, reached v bs .fine .empty h)
+    by (no h) = omega (arith, taken v bs)
 
 -- a further update of a state that was reached is never refused, and leads on
 pub reached-updated : (v : ℕ) (bs xs : List ℕ) → known v ≡ true
@@ -107,17 +124,17 @@ unfolding updated
 reached-updated v bs xs e = rw (ap known (variant-stays v bs) ∙ e, reached-unmarked v bs, cut bs xs (fresh v))
 
 -- in the short variant the counters 49 to 255 stay 0
-pub short-unused : (bs : List ℕ) (i : ℕ) → 49 ≤ i → getD (feed bs (fresh 48) .counters) i 0 ≡ 0
+pub short-unused : ShortUnused
 short-unused bs = feed-sixfold bs (fresh 48) (fresh-sixfold 48) .unused (variant-stays 48 bs)
 
 -- bytes after the first 2^32 change nothing
-pub first-bytes-only : (v : ℕ) (bs : List ℕ) → feed bs (fresh v) ≡ feed (take (2 ^ 32) bs) (fresh v)
+pub first-bytes-only : FirstBytesOnly
 first-bytes-only v bs = by (decLt (2 ^ 32) (length bs))
   where
     by : Dec (2 ^ 32 < length bs) → feed bs (fresh v) ≡ feed (take (2 ^ 32) bs) (fresh v)
     by (yes h) =
         cut-at (2 ^ 32) bs (fresh v)
-        ∙ full-stays (drop (2 ^ 32) bs) (feed (take (2 ^ 32) bs) (fresh v)) (reached v (take (2 ^ 32) bs) .fine)
+        ∙ fine-stays (drop (2 ^ 32) bs) (feed (take (2 ^ 32) bs) (fresh v)) (reached v (take (2 ^ 32) bs) .fine)
         (omega (arith, taken v (take (2 ^ 32) bs), length-take (2 ^ 32) bs))
     by (no h) = ap (λ (xs : List ℕ). feed xs (fresh v)) (sym (take-all (2 ^ 32) bs (omega arith)))
 

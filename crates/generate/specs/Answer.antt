@@ -1,4 +1,4 @@
--- The states that no bytes reach, and what is answered (document 01, Mapping and counting; Numbers for every answer).
+-- The states that no bytes reach, and what is answered (docs/RULES.md, sections 3 and 6).
 -- Assumes nothing.
 use mathlib.Core.Bool.{Bool, true, false, cond, not, _&&_, _||_}
 use mathlib.Core.List.{List}
@@ -25,8 +25,8 @@ judged s refusal answer =
     (refusal unknownVariant)
 
 -- what `new` answers; `fresh 0` is the all-zero record
-unfoldable pub made : ℕ → StateAnswer
-made v = cond (known v) (record { number = done; state = fresh v }) (record { number = unknownVariant; state = fresh 0 })
+unfoldable pub newAnswer : ℕ → StateAnswer
+newAnswer v = cond (known v) (record { number = done; state = fresh v }) (record { number = unknownVariant; state = fresh 0 })
 
 -- what `update` answers: a refusal carries the state it was given
 unfoldable pub updated : State → List ℕ → StateAnswer

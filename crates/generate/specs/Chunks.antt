@@ -1,4 +1,4 @@
--- Bytes in chunks (document 01, Mapping and counting: any cutting of the same bytes).
+-- Bytes in chunks (docs/RULES.md, section 3).
 -- Assumes nothing.
 use mathlib.Core.List.{List, [], _∷_, _++_}
 use Prim.Native.Nat.{ℕ}

@@ -1,11 +1,11 @@
--- What one byte does to a state, and a list of bytes (document 01, Mapping and counting).
+-- What one byte does to a state, and a list of bytes (docs/RULES.md, section 3).
 -- Assumes nothing.
 use mathlib.Core.Bool.{cond}
 use mathlib.Core.List.{List, [], _∷_}
 use Prim.Native.Nat.{ℕ, _+_}
 use lib.Dec.{ltb}
 use lib.ListN.{getD, set, replicate}
-use Rattle.leap.specs.Count.{checked, counted}
+use Rattle.counting.specs.Count.{checked, counted}
 use Rattle.generate.specs.declared.State.{State}
 
 -- the fresh state of a variant: all but the variant is 0

@@ -2,3 +2,4 @@ pub mod Feed
 pub mod Answer
 pub mod Chunks
 pub mod Parts
+pub mod Theorems

@@ -4,7 +4,7 @@
 use mathlib.Core.Path.{_≡_}
 use mathlib.Core.List.{List, [], _∷_}
 use Prim.Native.Nat.{ℕ, _+_, _-_, _%_, _≤_, min}
-use Rattle.leap.specs.declared.Window.{Window}
+use Rattle.counting.specs.declared.Window.{Window}
 use Rattle.generate.specs.declared.Cuts.{Cuts}
 use Rattle.generate.specs.Feed.{stop}
 

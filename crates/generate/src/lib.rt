@@ -2,28 +2,25 @@
 // hash/checksum.rs).
 //
 // The first four bytes of an input only fill the tail. Each later byte looks back at the four before it: it moves the checksum on
-// and adds one to six counters, as `leap` has it. So the length field, which counts the later bytes, is four short of the processed
+// and adds one to six counters, as `counting` has it. So the length field, which counts the later bytes, is four short of the processed
 // length. It stops where that reaches 2^32, and nothing changes from there on.
 //
 // A state goes in by value and comes back by value. An update cuts its bytes into those that fill the tail, those that are counted,
 // and those past the stop, so that the loop over the counted ones tests nothing. That loop works on the counters where they lie, on
 // two lent tables, and on a small struct of scalars; a larger one would be copied at each byte.
 //
-// Two loops count, to the same end. The plain one stands here: it looks each counter up and adds one to it. The fast one stands in
-// `leap`. It adds to the counters in the end alone, which has its price, so a few bytes go through the plain loop.
+// Two loops count, to the same end. The plain one stands in `counting`: it looks each counter up and adds one to it. The fast one
+// stands in `leap`. It adds to the counters in the end alone, which has its price, so a few bytes go through the plain loop.
 ghost use mathlib.Core.Path.{_≡_};
 ghost use mathlib.Core.Bool.{false};
-ghost use mathlib.Core.List.{_∷_, []};
 ghost use Prim.Native.Nat.{_+_, _≤_, min};
 ghost use lib.ListN.{length};
 ghost use lib.Seq.{sets};
-ghost use Rattle.pearson.specs.Table.{table};
-ghost use Rattle.pearson.specs.Mapping.{bucket, lasts};
-ghost use Rattle.leap.specs.Count.{bump};
-ghost use Rattle.leap.specs.Window.{hit, Ran};
+ghost use Rattle.counting.specs.Window.{Ran};
 ghost use Rattle.generate.specs.Feed.{fresh, feed};
-ghost use Rattle.generate.specs.Answer.{marked, made, updated, processed, answerOf};
+ghost use Rattle.generate.specs.Answer.{marked, newAnswer, updated, processed, answerOf};
 ghost use Rattle.generate.specs.Parts.{CutsOf, Opened, Fours};
+use counting::Window;
 
 // The counters stand first: the order of the fields decides how fast a copy is read.
 pub struct State {
@@ -66,91 +63,6 @@ const MAX_LEN: u32 = 4_294_967_292;
 // Below so many bytes the plain loop is the faster one.
 const FEW: usize = 112;
 
-// One more at the counter of the variant's mapping of four bytes.
-fn increment_at(
-    t: &[u8; 256],
-    l: &[u8; 256],
-    counters: &mut [u32; 256],
-    variant: u32,
-    a: u8,
-    b: u8,
-    c: u8,
-    d: u8,
-)
-    requires table { ⌜ now t ≡ table ⌝ }
-    requires last { ⌜ now l ≡ lasts variant ⌝ }
-    ensures { λ _. ⌜ now (counters .exit) ≡ bump (now (counters .entry)) (bucket variant a b c d) ⌝ }
-{
-    leap::increment(counters, pearson::b_mapping(t, l, variant, a, b, c, d));
-}
-
-// The six counters of a byte b4 that comes to a window.
-fn count(
-    t: &[u8; 256],
-    l: &[u8; 256],
-    counters: &mut [u32; 256],
-    variant: u32,
-    w: leap::Window,
-    b4: u8,
-)
-    requires table { ⌜ now t ≡ table ⌝ }
-    requires last { ⌜ now l ≡ lasts variant ⌝ }
-    ensures { λ _. ⌜ now (counters .exit) ≡ hit variant w (now (counters .entry)) b4 ⌝ }
-{
-    increment_at(t, l, counters, variant, 2, b4, w.b3, w.b2);
-    increment_at(t, l, counters, variant, 3, b4, w.b3, w.b1);
-    increment_at(t, l, counters, variant, 5, b4, w.b2, w.b1);
-    increment_at(t, l, counters, variant, 7, b4, w.b2, w.b0);
-    increment_at(t, l, counters, variant, 11, b4, w.b3, w.b0);
-    increment_at(t, l, counters, variant, 13, b4, w.b1, w.b0);
-}
-
-// One later byte: the checksum, the six counters, and the window moves on.
-fn slide(
-    t: &[u8; 256],
-    l: &[u8; 256],
-    counters: &mut [u32; 256],
-    variant: u32,
-    w: leap::Window,
-    b4: u8,
-) -> leap::Window
-    requires table { ⌜ now t ≡ table ⌝ }
-    requires last { ⌜ now l ≡ lasts variant ⌝ }
-    ensures { λ r. ⌜ Ran variant (b4 ∷ []) (now (counters .entry)) w (now (counters .exit)) r ⌝ }
-{
-    let checksum = pearson::b_mapping(t, l, variant, 0, b4, w.b3, w.checksum);
-    count(t, l, counters, variant, w, b4);
-    leap::Window {
-        checksum: checksum,
-        b0: w.b1,
-        b1: w.b2,
-        b2: w.b3,
-        b3: b4,
-    }
-}
-
-// The plain loop over later bytes.
-fn run(
-    t: &[u8; 256],
-    l: &[u8; 256],
-    counters: &mut [u32; 256],
-    variant: u32,
-    w: leap::Window,
-    bytes: &[u8],
-) -> leap::Window
-    requires table { ⌜ now t ≡ table ⌝ }
-    requires last { ⌜ now l ≡ lasts variant ⌝ }
-    ensures { λ r. ⌜ Ran variant (now (bytes .entry)) (now (counters .entry)) w (now (counters .exit)) r ⌝ }
-{
-    let mut next = w;
-    let mut i = 0;
-    while i < bytes.len() {
-        next = slide(t, l, counters, variant, next, bytes[i]);
-        i += 1;
-    }
-    next
-}
-
 // How many of n bytes go through the fast loop: none of a few, and else all but the last three at most.
 fn fours(n: usize) -> usize
     ensures { λ r. ⌜ Fours n r ⌝ }
@@ -162,14 +74,12 @@ fn fours(n: usize) -> usize
 }
 
 // The counters and the window after later bytes: some by the fast loop, the others by the plain one.
-fn count_all(counters: &mut [u32; 256], variant: u32, w: leap::Window, bytes: &[u8]) -> leap::Window
+fn count_all(counters: &mut [u32; 256], variant: u32, w: Window, bytes: &[u8]) -> Window
     ensures { λ r. ⌜ Ran variant (now (bytes .entry)) (now (counters .entry)) w (now (counters .exit)) r ⌝ }
 {
     let m = fours(bytes.len());
     let next = leap::over(counters, variant, w, &bytes[..m]);
-    let t = pearson::subst_table();
-    let l = pearson::last_table(variant);
-    run(&t, &l, counters, variant, next, &bytes[m..])
+    counting::one_by_one(counters, variant, next, &bytes[m..])
 }
 
 // A tail of n bytes with some more behind them.
@@ -209,14 +119,14 @@ fn cuts_of(length: u32, tail_len: u32, n: usize) -> Cuts
 }
 
 // The window of a checksum and a tail.
-fn opened(checksum: u8, tail: [u8; 4]) -> leap::Window
+fn opened(checksum: u8, tail: [u8; 4]) -> Window
     ensures { λ r. ⌜ Opened checksum tail r ⌝ }
 {
     let b0 = tail[0];
     let b1 = tail[1];
     let b2 = tail[2];
     let b3 = tail[3];
-    leap::Window {
+    Window {
         checksum: checksum,
         b0: b0,
         b1: b1,
@@ -267,7 +177,7 @@ fn start(variant: u32) -> State
 
 // The fresh state of a variant; 6 for another variant.
 pub fn new(variant: u32) -> StateAnswer
-    ensures { λ r. ⌜ r ≡ made variant ⌝ }
+    ensures { λ r. ⌜ r ≡ newAnswer variant ⌝ }
 {
     if !params::is_known(variant) {
         return StateAnswer {

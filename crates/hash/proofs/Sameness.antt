@@ -17,6 +17,7 @@ use Rattle.params.specs.Answers.{done, unknownVariant}
 use Rattle.hash.specs.declared.Digest.{Digest}
 use Rattle.body.specs.Body.{bytesOf}
 use Rattle.hash.specs.Digest.{firstEqual, sameFields, sameOf, Made}
+use Rattle.hash.specs.Theorems.{areSame, SameReflexive, SameSymmetric, SameTransitive, SameEqual, EqualSame}
 use Rattle.params.proofs.Tests.{and-both}
 
 -- what the loop keeps: whether the first i bytes are equal
@@ -163,7 +164,7 @@ alike-tests false true f g = g refl
 alike-tests false false f g = refl
 
 -- a digest is the same as itself
-pub same-reflexive : (a : Digest) → known (a .variant) ≡ true → sameOf a a ≡ record { number = done; same = true }
+pub same-reflexive : SameReflexive
 unfolding sameOf
 same-reflexive a k = rw (k, alike-same a a (alike-self a))
 
@@ -172,7 +173,7 @@ fields-turn : (a b : Digest) → sameFields a b ≡ true → sameFields b a ≡ 
 fields-turn a b e = alike-same b a (alike-turn a b (same-alike a b e))
 
 -- either order gives one answer
-pub same-symmetric : (a b : Digest) → sameOf a b ≡ sameOf b a
+pub same-symmetric : SameSymmetric
 unfolding sameOf
 same-symmetric a b =
     rw (
@@ -197,13 +198,12 @@ agreed a b e = go (known (a .variant)) refl (known (b .variant)) refl
     go false k q l = absurd (true≢false (sym (rw k at e)))
 
 -- and for these
-pub agreed-same : (a b : Digest) → Agreed a b → sameOf a b ≡ record { number = done; same = true }
+pub agreed-same : (a b : Digest) → Agreed a b → sameOf a b ≡ areSame
 unfolding sameOf
 agreed-same a b p = rw (p .first, p .second, alike-same a b (p .alike))
 
 -- two that are the same as one are the same
-pub same-transitive : (a b c : Digest) → sameOf a b .same ≡ true → sameOf b c .same ≡ true
-    → sameOf a c ≡ record { number = done; same = true }
+pub same-transitive : SameTransitive
 same-transitive a b c e f =
     let p = agreed a b e in
     let q = agreed b c f in
@@ -222,7 +222,7 @@ made-bodies a b m n p =
         m .rest i h ∙ sym (n .rest i (rw (← (p .variant)) h))
 
 -- of records that the port makes, those that are the same are equal
-pub same-equal : (a b : Digest) → Made a → Made b → sameOf a b .same ≡ true → a ≡ b
+pub same-equal : SameEqual
 same-equal a b m n e =
     let p = agreed a b e .alike in
     λ i. record {
@@ -234,5 +234,5 @@ same-equal a b m n e =
     }
 
 -- and those that are equal are the same
-pub equal-same : (a b : Digest) → Made a → a ≡ b → sameOf a b ≡ record { number = done; same = true }
+pub equal-same : EqualSame
 equal-same a b m e = rw (← e) (same-reflexive a (m .variant))

@@ -1,4 +1,4 @@
--- The digest record, and when two are the same (document 01, Text).
+-- The digest record, and when two are the same (docs/RULES.md, section 5).
 -- Assumes nothing.
 use mathlib.Core.Bool.{Bool, true, false, cond, not, _&&_}
 use mathlib.Core.List.{List}

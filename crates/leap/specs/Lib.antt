@@ -1,3 +1,2 @@
-pub mod Count
-pub mod Window
+pub mod Fours
 pub mod Places

@@ -3,13 +3,12 @@
 use mathlib.Core.Path.{_≡_, refl, sym}
 use mathlib.Core.Bool.{Bool, true, false, not}
 use Prim.Native.Nat.{ℕ}
-use lib.ListN.{getD}
 use borrow.Author.Tests.{eq-eqb, ne-eqb, not-true, not-false}
 use Rattle.params.specs.Variants.{known}
 use Rattle.params.specs.Answers.{done, unknownVariant}
 use Rattle.length.specs.declared.Limits.{Limits}
-use Rattle.length.specs.Tops.{tops}
 use Rattle.length.specs.Limits.{minimum, maximum, limitsOf}
+use Rattle.length.specs.Theorems.{MaximumTop}
 use Rattle.length.proofs.Codes.{last-top}
 
 -- another variant: 6
@@ -31,6 +30,6 @@ unfolding limitsOf minimum maximum
 limits-other v k e t h = rw (← e, not-false k t, ne-eqb v 48 h)
 
 -- the maximum of each variant is the last top
-pub maximum-top : (v : ℕ) → maximum v ≡ getD tops 169 0
+pub maximum-top : MaximumTop
 unfolding maximum
 maximum-top v = sym last-top

@@ -13,9 +13,9 @@ use lib.ListN.{length, getD, drop, drop-of-length-le}
 use lib.Seq.{drop-cons}
 use borrow.Author.Tests.{lt-ltb, le-ltb, ltb-true, ltb-false}
 use Rattle.params.specs.Answers.{done, noLengthCode}
-use Rattle.length.specs.declared.Coded.{Coded}
 use Rattle.length.specs.Tops.{tops}
 use Rattle.length.specs.Code.{firstFrom, coded}
+use Rattle.length.specs.Theorems.{HasCode, NoCode, ZeroCode}
 use Rattle.length.proofs.Tops.{tops-count, tops-rising}
 
 -- ---- the loop
@@ -30,8 +30,8 @@ first-step : (n : ℕ) (xs : List ℕ) (i : ℕ) → i < length xs
     → firstFrom n (drop i xs) ≡ cond (ltb (getD xs i 0) n) (suc (firstFrom n (drop (i + 1) xs))) 0
 first-step n xs i h = rw (add-one, drop-cons xs i 0)
 
-count : (xs : List ℕ) → xs ≡ tops → length xs ≡ 170
-count xs e = ap length e ∙ tops-count
+tops-length : (xs : List ℕ) → xs ≡ tops → length xs ≡ 170
+tops-length xs e = ap length e ∙ tops-count
 
 -- at the start none is passed
 pub passed-none : (n : ℕ) (xs : List ℕ) → xs ≡ tops → Passed n xs 0
@@ -46,7 +46,7 @@ passed-more n xs i b h l =
       rest = omega (
         arith,
         b .rest,
-        rw (lt-ltb (getD xs i 0) n l) at (first-step n xs i (omega (arith, count xs (b .table)))),
+        rw (lt-ltb (getD xs i 0) n l) at (first-step n xs i (omega (arith, tops-length xs (b .table)))),
       );
     }
 
@@ -54,7 +54,7 @@ passed-more n xs i b h l =
 pub passed-here : (n : ℕ) (xs : List ℕ) (i : ℕ) → Passed n xs i → i < 170 → n ≤ getD xs i 0 → record { number = done; code = i } ≡ coded n
 unfolding coded
 passed-here n xs i b h l =
-    let c : length xs ≡ 170 = count xs (b .table) in
+    let c : length xs ≡ 170 = tops-length xs (b .table) in
     let f : firstFrom n xs ≡ i = omega (arith, b .rest, rw (le-ltb (getD xs i 0) n l) at (first-step n xs i (omega arith))) in
     rw (← b .table, f, lt-ltb i (length xs) (omega arith))
 
@@ -62,7 +62,7 @@ passed-here n xs i b h l =
 pub passed-all : (n : ℕ) (xs : List ℕ) (i : ℕ) → Passed n xs i → 170 ≤ i → record { number = noLengthCode; code = 0 } ≡ coded n
 unfolding coded
 passed-all n xs i b h =
-    let c : length xs ≡ 170 = count xs (b .table) in
+    let c : length xs ≡ 170 = tops-length xs (b .table) in
     let z : firstFrom n (drop i xs) ≡ 0 = rw (drop-of-length-le xs {i = i} (omega arith)) in
     let f : firstFrom n xs ≡ length xs = omega (arith, b .rest, b .within) in
     rw (← b .table, f, le-ltb (length xs) (length xs) (omega arith))
@@ -110,13 +110,7 @@ found : (n : ℕ) → n ≤ 4_224_281_216 → firstFrom n tops < length tops
 found n h = omega (arith, tops-count, first-le n tops 169 (omega (arith, tops-count)) (omega (arith, last-top)))
 
 -- up to the last top the answer is a code: its top is not below n, and each earlier top is
-pub record IsCode (n : ℕ) (r : Coded) : Type 0 where
-  pub given : r .number ≡ done
-  pub small : r .code < 170
-  pub reaches : n ≤ getD tops (r .code) 0
-  pub first : (k : ℕ) → k < r .code → getD tops k 0 < n
-
-pub has-code : (n : ℕ) → n ≤ 4_224_281_216 → IsCode n (coded n)
+pub has-code : HasCode
 unfolding coded
 has-code n h =
     rw (lt-ltb (firstFrom n tops) (length tops) (found n h))
@@ -134,7 +128,7 @@ top-le i h (no l) =
     let e : i ≡ 169 = omega arith in
     rw e (omega (arith, last-top))
 
--- beyond the last top there is no code: the answer is 5
+-- beyond the last top, the search decided
 none-by : (n : ℕ) → 4_224_281_216 < n → Dec (firstFrom n tops < length tops) → coded n ≡ record { number = noLengthCode; code = 0 }
 unfolding coded
 none-by n h (yes l) =
@@ -142,10 +136,11 @@ none-by n h (yes l) =
     absurd (omega (arith, first-reaches n tops l))
 none-by n h (no l) = rw (le-ltb (firstFrom n tops) (length tops) (omega arith))
 
-pub no-code : (n : ℕ) → 4_224_281_216 < n → coded n ≡ record { number = noLengthCode; code = 0 }
+-- beyond the last top there is no code: the answer is 5
+pub no-code : NoCode
 no-code n h = none-by n h (decLt _ _)
 
 -- length 0 has code 0
-pub zero-code : coded 0 ≡ record { number = done; code = 0 }
+pub zero-code : ZeroCode
 unfolding coded tops
 zero-code = refl

@@ -1,3 +1,4 @@
 pub mod Tops
 pub mod Codes
 pub mod Bounds
+mod Unique

@@ -3,7 +3,7 @@
 use mathlib.Core.Path.{_≡_, refl}
 use mathlib.Core.Bool.{Bool, true, _&&_}
 use mathlib.Core.List.{List, [], _∷_}
-use Prim.Native.Nat.{ℕ, zero, suc, _+_, _-_, _≤_, _<_}
+use Prim.Native.Nat.{ℕ, zero, suc, _+_, _-_, _<_}
 use native.Mathlib.Nat.{le-of-suc-le-suc, not-suc-le-zero}
 use native.Mathlib.Numerals.{add-one}
 use native.Mathlib.Omega.{arith}
@@ -11,6 +11,7 @@ use lib.Dec.{T, ltb, ltb→lt}
 use lib.ListN.{length, getD}
 use Rattle.params.proofs.Every.{and-left, and-right}
 use Rattle.length.specs.Tops.{tops}
+use Rattle.length.specs.Theorems.{TopsRising}
 
 -- there are 170 codes
 pub tops-count : length tops ≡ 170
@@ -44,7 +45,7 @@ above xs t i (suc d) h =
     rw e (omega arith)
 
 -- a later code has a greater top
-pub tops-rising : (i j : ℕ) → i < j → j < 170 → getD tops i 0 < getD tops j 0
+pub tops-rising : TopsRising
 tops-rising i j l h =
     let e : i + suc (j - suc i) ≡ j = omega arith in
     rw e at (above tops tops-rise i (j - suc i) (omega (arith, tops-count)))

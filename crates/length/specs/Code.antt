@@ -1,4 +1,4 @@
--- The code of a length (document 01, Finalizing, step 2).
+-- The code of a length (docs/RULES.md, section 4, step 2).
 -- Assumes nothing.
 use Prim.Native.Nat.{ℕ, suc}
 use mathlib.Core.Bool.{cond}

@@ -1,3 +1,4 @@
 pub mod Tops
 pub mod Code
 pub mod Limits
+pub mod Theorems

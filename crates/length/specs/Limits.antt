@@ -1,4 +1,4 @@
--- The lengths that a variant takes (document 01, Finalizing, step 1; the values are those of `LengthProcessingInfo`).
+-- The lengths that a variant takes (docs/RULES.md, section 4, step 1; the values are those of `LengthProcessingInfo`).
 -- Assumes nothing.
 use Prim.Native.Nat.{ℕ}
 use mathlib.Core.Bool.{Bool, true, false, cond}

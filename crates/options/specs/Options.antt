@@ -1,4 +1,4 @@
--- The option number (document 01, Numbers for every answer): 1 conservative, 2 integer ratios, 4 small, 8 half, 16 quarter, added.
+-- The option number (docs/RULES.md, section 7): 1 conservative, 2 integer ratios, 4 small, 8 half, 16 quarter, added.
 -- Assumes nothing.
 use Prim.Native.Nat.{ℕ, _/_, _%_}
 use mathlib.Core.Bool.{Bool, true, false, cond}
@@ -19,9 +19,17 @@ clear = flags false false false false false
 abbrev pub has : ℕ → ℕ → Bool
 has w n = eqb (n / w % 2) 1
 
--- 0 to 31 are known; 10 for any other
+-- the greatest option number: all five flags
+abbrev pub mostOptions : ℕ
+mostOptions = 31
+
+-- a number above it has a bit that is no flag's
+abbrev pub hasUnknownBit : ℕ → Bool
+hasUnknownBit n = ltb mostOptions n
+
+-- the flags of a known number; 10 for any other
 unfoldable pub chosen : ℕ → Chosen
 chosen n =
-    cond (ltb 31 n)
+    cond (hasUnknownBit n)
     (record { number = unknownOption; options = clear })
     (record { number = done; options = flags (has 1 n) (has 2 n) (has 4 n) (has 8 n) (has 16 n) })

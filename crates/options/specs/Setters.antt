@@ -1,4 +1,4 @@
--- The record with one flag set, the other four as they were (document 01, Numbers for every answer: one field by each setter).
+-- The record with one flag set, the other four as they were (docs/RULES.md, section 7).
 -- Assumes nothing.
 use mathlib.Core.Bool.{Bool}
 use Rattle.options.specs.declared.Options.{Options}

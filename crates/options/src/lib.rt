@@ -38,11 +38,14 @@ pub fn new() -> Options
     }
 }
 
+// The greatest option number: all five flags.
+pub const MOST: u32 = 31;
+
 // The options of a number: 1 conservative, 2 integer, 4 small, 8 half, 16 quarter, added; 10 for any other bit.
 pub fn options_of(n: u32) -> Chosen
     ensures { λ r. ⌜ r ≡ chosen n ⌝ }
 {
-    if 31 < n {
+    if MOST < n {
         let options = new();
         return Chosen {
             number: params::UNKNOWN_OPTION,

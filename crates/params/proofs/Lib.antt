@@ -1,3 +1,5 @@
 pub mod Variants
 pub mod Every
 pub mod Tests
+pub mod One
+mod Unique

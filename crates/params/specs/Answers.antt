@@ -1,4 +1,4 @@
--- The number of each answer (document 01, Numbers for every answer). Every number but 0 is a refusal.
+-- The number of each answer (docs/RULES.md, section 6). Every number but 0 is a refusal.
 -- Assumes nothing.
 use Prim.Native.Nat.{ℕ}
 

@@ -1,4 +1,4 @@
--- The three variants (document 01, What is ported). A variant is its number of used buckets.
+-- The three variants (docs/RULES.md, section 1). A variant is its number of used buckets.
 -- Assumes nothing.
 use Prim.Native.Nat.{ℕ}
 use mathlib.Core.Bool.{Bool, _||_}

@@ -16,7 +16,8 @@ use Rattle.body.proofs.Padded.{padded-small, padded-rest}
 use Rattle.body.specs.Body.{bytesOf}
 use Rattle.hash.specs.Digest.{Made}
 use Rattle.text.specs.Text.{bodyText, textOf, textSize, writeOf}
-use Rattle.parse.specs.Reading.{isDigit, allDigits, byteAt, bytesFrom, bodyFrom, digestOf, digitsOf, beginsT1, readOf}
+use Rattle.parse.specs.Reading.{isDigit, allDigits, byteAt, bytesFrom, bodyFrom, digestFrom, digitsOf, beginsT1, readOf}
+use Rattle.parse.specs.Theorems.{TextAgain, WriteAgain, ReadMade, ReadVariant, OneText}
 use Rattle.params.proofs.Tests.{and-both}
 use Rattle.parse.proofs.Digits.{low-back, high-back, byte-small, digits-head, digits-tail, digits-at}
 use Rattle.parse.proofs.Reading.{length-bytes}
@@ -42,7 +43,7 @@ accepted v s e = go (known v) refl (eqb (length s) (textSize v)) refl (beginsT1 
     go false p b q c r d t = let z : unknownVariant ≡ done = rw p at e in absurd (omega arith)
 
 -- and always for one of it, with the digest of the digits after `T1`
-pub accepted-read : (v : ℕ) (s : List ℕ) → Accepted v s → readOf v s ≡ record { number = done; digest = digestOf v (drop 2 s) }
+pub accepted-read : (v : ℕ) (s : List ℕ) → Accepted v s → readOf v s ≡ record { number = done; digest = digestFrom v (drop 2 s) }
 unfolding readOf digitsOf
 accepted-read v s a = rw (a .variant, eq-eqb _ _ (a .size), a .begins, a .digits)
 
@@ -60,8 +61,8 @@ text-back (h ∷ l ∷ cs) (suc n) k e =
 -- the text of the digest of digits is those digits behind `T1`
 spread-text : (v n a b c d f g : ℕ) (cs : List ℕ) → n ≡ bytesOf v → length cs ≡ 2 * n
     → allDigits (a ∷ b ∷ c ∷ d ∷ f ∷ g ∷ cs) ≡ true
-    → textOf (digestOf v (a ∷ b ∷ c ∷ d ∷ f ∷ g ∷ cs)) ≡ 84 ∷ 49 ∷ a ∷ b ∷ c ∷ d ∷ f ∷ g ∷ cs
-unfolding textOf digestOf bodyFrom
+    → textOf (digestFrom v (a ∷ b ∷ c ∷ d ∷ f ∷ g ∷ cs)) ≡ 84 ∷ 49 ∷ a ∷ b ∷ c ∷ d ∷ f ∷ g ∷ cs
+unfolding textOf digestFrom bodyFrom
 spread-text v n a b c d f g cs u l e =
     let t = a ∷ b ∷ c ∷ d ∷ f ∷ g ∷ cs in
     let isA : isDigit a ≡ true = digits-at t 0 e (omega arith) in
@@ -85,7 +86,7 @@ spread-text v n a b c d f g cs u l e =
     )
 
 -- for any digits of the size
-digits-text : (v n : ℕ) (t : List ℕ) → n ≡ bytesOf v → length t ≡ 6 + 2 * n → allDigits t ≡ true → textOf (digestOf v t) ≡ 84 ∷ 49 ∷ t
+digits-text : (v n : ℕ) (t : List ℕ) → n ≡ bytesOf v → length t ≡ 6 + 2 * n → allDigits t ≡ true → textOf (digestFrom v t) ≡ 84 ∷ 49 ∷ t
 digits-text v n [] u l e = absurd (omega arith)
 digits-text v n (a ∷ []) u l e = absurd (omega arith)
 digits-text v n (a ∷ b ∷ []) u l e = absurd (omega arith)
@@ -127,14 +128,14 @@ module _ (v : ℕ) (s : List ℕ) (a : Accepted v s) where
   length-digits = simp length-drop (omega (arith, a .size))
 
   -- the text of the digest that was read is the text
-  accepted-text : textOf (digestOf v (drop 2 s)) ≡ s
+  accepted-text : textOf (digestFrom v (drop 2 s)) ≡ s
   accepted-text =
       digits-text v (bytesOf v) (drop 2 s) refl length-digits (a .digits)
       ∙ sym (begins-split s (omega (arith, a .size)) (a .begins))
 
   -- the digest that was read is one that the port makes
-  accepted-made : Made (digestOf v (drop 2 s))
-  unfolding digestOf bodyFrom
+  accepted-made : Made (digestFrom v (drop 2 s))
+  unfolding digestFrom bodyFrom
   accepted-made =
       let t = drop 2 s in
       let n = length-digits in
@@ -150,32 +151,29 @@ module _ (v : ℕ) (s : List ℕ) (a : Accepted v s) where
         rest = λ (i : ℕ) (h : bytesOf v ≤ i). padded-rest bytes (64 - length bytes) i (omega arith);
       }
 
-module _ (v : ℕ) (s : List ℕ) (read : readOf v s .number ≡ done) where
-  -- writing what was read gives the text
-  pub text-again : textOf (readOf v s .digest) ≡ s
-  text-again =
-      let a = accepted v s read in
-      rw (accepted-read v s a) (accepted-text v s a)
+-- writing what was read gives the text
+pub text-again : TextAgain
+text-again v s read =
+    let a = accepted v s read in
+    rw (accepted-read v s a) (accepted-text v s a)
 
-  -- what was read is a digest that the port makes
-  pub read-made : Made (readOf v s .digest)
-  read-made =
-      let a = accepted v s read in
-      rw (accepted-read v s a) (accepted-made v s a)
+-- what was read is a digest that the port makes
+pub read-made : ReadMade
+read-made v s read =
+    let a = accepted v s read in
+    rw (accepted-read v s a) (accepted-made v s a)
 
-  -- of the variant that was asked for
-  pub read-variant : readOf v s .digest .variant ≡ v
-  unfolding digestOf
-  read-variant = rw (accepted-read v s (accepted v s read))
+-- of the variant that was asked for
+pub read-variant : ReadVariant
+unfolding digestFrom
+read-variant v s read = rw (accepted-read v s (accepted v s read))
 
 -- two texts that are read to one digest are one text
-pub one-text : (v w : ℕ) (s t : List ℕ) → readOf v s .number ≡ done → readOf w t .number ≡ done
-    → readOf v s .digest ≡ readOf w t .digest → s ≡ t
+pub one-text : OneText
 one-text v w s t p q e = sym (text-again v s p) ∙ ap textOf e ∙ text-again w t q
 
 -- writing what was read leaves the text at the destination's front
-pub write-again : (v : ℕ) (s destination : List ℕ) → readOf v s .number ≡ done → length s ≤ length destination
-    → writeOf (readOf v s .digest) destination ≡ record { number = done; destination = s ++ drop (length s) destination }
+pub write-again : WriteAgain
 unfolding writeOf
 write-again v s destination p h =
     let m = read-made v s p in

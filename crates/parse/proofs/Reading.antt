@@ -18,7 +18,7 @@ use Rattle.hash.specs.declared.Digest.{Digest}
 use Rattle.parse.specs.declared.ReadAnswer.{ReadAnswer}
 use Rattle.body.specs.Body.{bytesOf}
 use Rattle.parse.specs.Reading.{isDigit, allDigits, byteAt, byteFrom, bytesFrom, bodyFrom}
-use Rattle.parse.specs.Reading.{digestOf, refusedRead, digitsOf, beginsT1, readOf}
+use Rattle.parse.specs.Reading.{digestFrom, refusedRead, digitsOf, beginsT1, readOf}
 use Rattle.params.proofs.Tests.{passed, and-both}
 use Rattle.text.proofs.Writing.{sets-append}
 
@@ -299,7 +299,7 @@ digits-9 v b t r a e q = rw (q, ← a, e)
 pub digits-0 : (v x y z : ℕ) (b : Bool) (t l : List ℕ) → b ≡ allDigits t → not b ≡ false → l ≡ bodyFrom t → x ≡ byteAt t 0 1
     → y ≡ byteAt t 2 3 → z ≡ byteAt t 4 5
     → record { number = done; digest = record { body = l; variant = v; checksum = x; «length_code» = y; ratios = z } } ≡ digitsOf v t
-unfolding digitsOf digestOf
+unfolding digitsOf digestFrom
 digits-0 v x y z b t l a e q q₁ q₂ q₃ = rw (← a, e, q, q₁, q₂, q₃)
 
 -- a known variant has eight bytes and more

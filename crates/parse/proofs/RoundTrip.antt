@@ -15,7 +15,8 @@ use Rattle.hash.specs.declared.Digest.{Digest}
 use Rattle.body.specs.Body.{bytesOf}
 use Rattle.hash.specs.Digest.{Made}
 use Rattle.text.specs.Text.{lowFirst, bodyText, textOf, textSize, writeOf}
-use Rattle.parse.specs.Reading.{allDigits, bytesFrom, bodyFrom, digestOf, digitsOf, beginsT1, readOf}
+use Rattle.parse.specs.Reading.{allDigits, bytesFrom, bodyFrom, digestFrom, digitsOf, beginsT1, readOf}
+use Rattle.parse.specs.Theorems.{TextRead, TextSizes, ReadWritten}
 use Rattle.parse.proofs.Digits.{digit-good, byte-back}
 use Rattle.text.proofs.Writing.{length-text}
 
@@ -80,8 +81,8 @@ module _ (d : Digest) (m : Made d) where
       (digits-of (d .ratios) (bodyText used) (m .ratios) (digits-body used (bytes-take (bytesOf (d .variant)) (d .body) (m .bytes)))))
 
   -- and gives the digest
-  digest-back : digestOf (d .variant) (drop 2 (textOf d)) ≡ d
-  unfolding digestOf bodyFrom textOf
+  digest-back : digestFrom (d .variant) (drop 2 (textOf d)) ≡ d
+  unfolding digestFrom bodyFrom textOf
   digest-back =
       let n = bytesOf (d .variant) in
       let used = take n (d .body) in
@@ -95,23 +96,22 @@ module _ (d : Digest) (m : Made d) where
         ratios = byte-back (d .ratios) (m .ratios) i;
       }
 
-  -- reading a digest's text gives the digest
-  pub round-trip : readOf (d .variant) (textOf d) ≡ record { number = done; digest = d }
-  unfolding readOf digitsOf
-  round-trip =
-      let l = length-text d (m .long) in
-      let t : beginsT1 (textOf d) ≡ true = unfold textOf in refl in
-      rw (m .variant, eq-eqb _ _ l, t, digits-good) (ap (λ (x : Digest). record { number = done; digest = x }) digest-back)
+-- reading a digest's text gives the digest
+pub text-read : TextRead
+unfolding readOf digitsOf
+text-read d m =
+    let l = length-text d (m .long) in
+    let t : beginsT1 (textOf d) ≡ true = unfold textOf in refl in
+    rw (m .variant, eq-eqb _ _ l, t, digits-good d m) (ap (λ (x : Digest). record { number = done; digest = x }) (digest-back d m))
 
 -- the text has 32, 72 or 136 characters
-pub text-sizes : (d : Digest) → Made d → length (textOf d) ≡ cond (eqb (d .variant) 48) 32 (cond (eqb (d .variant) 128) 72 136)
+pub text-sizes : TextSizes
 text-sizes d m =
     length-text d (m .long)
     ∙ by-variant (λ (v : ℕ). textSize v ≡ cond (eqb v 48) 32 (cond (eqb v 128) 72 136)) refl refl refl (d .variant) (m .variant)
 
 -- reading the characters that were written gives the digest
-pub read-written : (d : Digest) (destination : List ℕ) → Made d → writeOf d destination .number ≡ done
-    → readOf (d .variant) (take (textSize (d .variant)) (writeOf d destination .destination)) ≡ record { number = done; digest = d }
+pub read-written : ReadWritten
 unfolding writeOf
 read-written d destination m e = go (ltb (length destination) (length (textOf d))) refl
   where
@@ -122,4 +122,4 @@ read-written d destination m e = go (ltb (length destination) (length (textOf d)
         absurd (omega arith)
     go false q =
         let rest = drop (length (textOf d)) destination in
-        rw (m .variant, q, take-at (textOf d) rest (textSize (d .variant)) (length-text d (m .long))) (round-trip d m)
+        rw (m .variant, q, take-at (textOf d) rest (textSize (d .variant)) (length-text d (m .long))) (text-read d m)

@@ -1,4 +1,4 @@
--- Reading a text (document 01, Text and Numbers for every answer): exactly the written form, with any bytes.
+-- Reading a text (docs/RULES.md, sections 5 and 6): exactly the written form, with any bytes.
 -- Assumes nothing.
 use mathlib.Core.Bool.{Bool, true, cond, not, _&&_, _||_}
 use mathlib.Core.List.{List, [], _∷_, _++_}
@@ -44,8 +44,8 @@ unfoldable pub bodyFrom : List ℕ → List ℕ
 bodyFrom t = bytesFrom (drop 6 t) ++ replicate (64 - length (bytesFrom (drop 6 t))) 0
 
 -- the digest that the digits after `T1` give
-unfoldable pub digestOf : ℕ → List ℕ → Digest
-digestOf v t =
+unfoldable pub digestFrom : ℕ → List ℕ → Digest
+digestFrom v t =
     record {
       body = bodyFrom t;
       variant = v;
@@ -60,7 +60,7 @@ refusedRead n = record { number = n; digest = zeroDigest }
 
 -- what stands after `T1` answers its digest, or 9 where a character is no digit
 unfoldable pub digitsOf : ℕ → List ℕ → ReadAnswer
-digitsOf v t = cond (not (allDigits t)) (refusedRead wrongCharacter) (record { number = done; digest = digestOf v t })
+digitsOf v t = cond (not (allDigits t)) (refusedRead wrongCharacter) (record { number = done; digest = digestFrom v t })
 
 -- the first two characters are `T` and `1`
 abbrev pub beginsT1 : List ℕ → Bool

@@ -1,3 +1,4 @@
 pub mod Table
 pub mod Values
 pub mod Steps
+mod Unique

@@ -3,7 +3,7 @@
 use mathlib.Core.Path.{_≡_, refl}
 use mathlib.Core.Bool.{Bool, true, false, cond, not}
 use mathlib.Core.List.{List, [], _∷_, map}
-use Prim.Native.Nat.{ℕ, _<_, _≤_, _%_}
+use Prim.Native.Nat.{ℕ, _<_, _%_}
 use native.Mathlib.Omega.{arith}
 use lib.Bits.{bitXor, xor-lt}
 use lib.Dec.{eqb, ltb}
@@ -16,6 +16,7 @@ use Rattle.params.specs.Answers.{done, unknownVariant}
 use Rattle.pearson.specs.declared.Mapped.{Mapped}
 use Rattle.pearson.specs.Table.{table}
 use Rattle.pearson.specs.Mapping.{look, after, mapping, short, own, bucket, lasts, mapped}
+use Rattle.pearson.specs.Theorems.{BucketBelow, BucketShort, ShortLow, ShortHigh}
 use Rattle.pearson.proofs.Table.{look-lt}
 
 -- the xor of two bytes is an index into a table of 256
@@ -23,12 +24,12 @@ pub xor-below : (s v : ℕ) → Fits w8 s → Fits w8 v → bitXor s v < 256
 xor-below s v p q = xor-lt 8 s v (p .fits) (q .fits)
 
 -- the short value of a number below 240 is that number mod 48
-pub short-low : (x : ℕ) → x < 240 → short x ≡ x % 48
+pub short-low : ShortLow
 unfolding short
 short-low x h = rw (lt-ltb x 240 h)
 
 -- and of any other number 48
-pub short-high : (x : ℕ) → 240 ≤ x → short x ≡ 48
+pub short-high : ShortHigh
 unfolding short
 short-high x h = rw (le-ltb x 240 h)
 
@@ -43,14 +44,14 @@ unfolding short
 short-le x = cond-lt (ltb x 240) (x % 48) 48 49 (omega arith) (omega arith)
 
 -- every value of a variant's mapping is a byte
-pub bucket-lt : (v a b c d : ℕ) → bucket v a b c d < 256
+pub bucket-lt : BucketBelow
 unfolding bucket own mapping after
 bucket-lt v a b c d =
     let x : ℕ = mapping a b c d in
     cond-lt (eqb v 48) (short x) x 256 (omega (arith, short-le x)) (look-lt _)
 
 -- and in the short variant it is at most 48
-pub bucket-short : (a b c d : ℕ) → bucket 48 a b c d < 49
+pub bucket-short : BucketShort
 unfolding bucket own
 bucket-short a b c d = short-le (mapping a b c d)
 
@@ -78,7 +79,8 @@ unfolding lasts own
 lasts-other v n = map-same (own v) (λ x. rw (ne-eqb v 48 n)) table
 
 -- what `mapping` answers: 6 for another variant
-pub mapped-unknown : (v a b c d : ℕ) (k : Bool) → k ≡ known v → not k ≡ true → record { number = unknownVariant; value = 0 } ≡ mapped v a b c d
+pub mapped-unknown : (v a b c d : ℕ) (k : Bool) → k ≡ known v → not k ≡ true
+    → record { number = unknownVariant; value = 0 } ≡ mapped v a b c d
 unfolding mapped
 mapped-unknown v a b c d k e t = rw (← e, not-true k t)
 

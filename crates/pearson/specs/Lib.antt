@@ -1,3 +1,4 @@
 pub mod Table
 pub mod Mapping
 pub mod Steps
+pub mod Theorems

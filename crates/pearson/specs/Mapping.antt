@@ -1,4 +1,4 @@
--- The mapping of four bytes (document 01, Mapping and counting).
+-- The mapping of four bytes (docs/RULES.md, section 2).
 -- Assumes nothing.
 use Prim.Native.Nat.{ℕ, _%_}
 use mathlib.Core.Bool.{cond}

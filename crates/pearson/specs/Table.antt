@@ -1,4 +1,4 @@
--- The byte table T (document 01, Mapping and counting; the values are those of `SUBST_TABLE` in pearson.rs).
+-- The byte table T (docs/RULES.md, section 2; the values are those of `SUBST_TABLE` in pearson.rs).
 -- Assumes nothing.
 use mathlib.Core.List.{List, [], _∷_}
 use Prim.Native.Nat.{ℕ, _+_}
@@ -25,6 +25,6 @@ table =
     51 ∷ 65 ∷ 28 ∷ 144 ∷ 254 ∷ 221 ∷ 93 ∷ 189 ∷ 194 ∷ 139 ∷ 112 ∷ 43 ∷ 71 ∷ 109 ∷ 184 ∷ 209 ∷ []
 
 -- how often k stands in a list
-unfoldable pub count : ℕ → List ℕ → ℕ
-count k [] = 0
-count k (x ∷ xs) = cond (eqb x k) 1 0 + count k xs
+unfoldable pub occurs : ℕ → List ℕ → ℕ
+occurs k [] = 0
+occurs k (x ∷ xs) = cond (eqb x k) 1 0 + occurs k xs

@@ -24,8 +24,8 @@ use Rattle.generate.proofs.Reached.{variant-stays}
 use Rattle.options.specs.declared.Options.{Options}
 use Rattle.options.specs.Options.{flags, has, chosen}
 use Rattle.finalize.specs.declared.Finalized.{Finalized}
-use Rattle.finalize.specs.Final.{counts, isTooSmall, isThreeQuarterEmpty, isHalfEmpty, replaced, digestBy, distributed, classed, measured}
-use Rattle.finalize.specs.Final.{lengthed, finalizedWith, finalizedBy, finalized, digestOf}
+use Rattle.finalize.specs.Final.{countsAs, isTooSmall, isThreeQuarterEmpty, isHalfEmpty, replaced, digestBy, distributed, withCode}
+use Rattle.finalize.specs.Final.{measured, withLength, finalizedWith, finalizedBy, finalized, digestOf}
 use Rattle.finalize.proofs.Laws.{replaced-ordered}
 use Rattle.promises.specs.Demands.{farBound, PathsAgree, NumbersAgree, PathsAgreeFarther, NumbersAgreeFarther}
 use Rattle.promises.proofs.Third.{bound-within, third-agreeing}
@@ -52,15 +52,15 @@ steps-agree : (a : LengthAnswer) (t : State) (c s h q : Bool)
     false
     ≡ digestBy (replaced (quartiles (take (t .variant) (t .counters)))) (take (t .variant) (t .counters)) (t .variant) (t .checksum) code
     true)
-    → lengthed a t (flags c false s h q) ≡ lengthed a t (flags c true s h q)
-unfolding lengthed measured classed distributed isTooSmall isThreeQuarterEmpty isHalfEmpty
-steps-agree a t c s h q e = rw (e (coded (counts a) .code))
+    → withLength a t (flags c false s h q) ≡ withLength a t (flags c true s h q)
+unfolding withLength measured withCode distributed isTooSmall isThreeQuarterEmpty isHalfEmpty
+steps-agree a t c s h q e = rw (e (coded (countsAs a) .code))
 
 -- without a processed length there is a refusal, by both paths the same
 given-by : (t : State) (k : Bool) → known (t .variant) ≡ k → (c s h q : Bool)
-    → (known (t .variant) ≡ true → lengthed (processed t) t (flags c false s h q) ≡ lengthed (processed t) t (flags c true s h q))
-    → lengthed (processed t) t (flags c false s h q) ≡ lengthed (processed t) t (flags c true s h q)
-unfolding processed lengthed
+    → (known (t .variant) ≡ true → withLength (processed t) t (flags c false s h q) ≡ withLength (processed t) t (flags c true s h q))
+    → withLength (processed t) t (flags c false s h q) ≡ withLength (processed t) t (flags c true s h q)
+unfolding processed withLength
 given-by t true e c s h q m = m e
 given-by t false e c s h q m = rw e
 

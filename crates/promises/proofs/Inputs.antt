@@ -27,8 +27,9 @@ use Rattle.generate.proofs.Chunks.{feeds-joined}
 use Rattle.options.specs.declared.Options.{Options}
 use Rattle.options.specs.Options.{flags, has, chosen}
 use Rattle.finalize.specs.declared.Finalized.{Finalized}
-use Rattle.finalize.specs.Final.{refused, counts, isTooLarge, isTooSmall, isThreeQuarterEmpty, isHalfEmpty, replaced, digestBy, distributed, classed, measured, lengthed, finalizedWith, finalizedBy, finalized, digestOf}
-use Rattle.promises.specs.Demands.{AnyCutting, usedOf, verdictWith, verdict, ExactNumbers, ZeroBesideRefusal}
+use Rattle.finalize.specs.Final.{refused, countsAs, isTooLarge, isTooSmall, isThreeQuarterEmpty, isHalfEmpty, replaced, digestBy}
+use Rattle.finalize.specs.Final.{distributed, withCode, measured, withLength, finalizedWith, finalizedBy, finalized, digestOf}
+use Rattle.promises.specs.Demands.{AnyCutting, usedOf, inputNumberWith, inputNumber, ExactNumbers, ZeroBesideRefusal}
 
 -- any cutting
 pub any-cutting : AnyCutting
@@ -39,7 +40,11 @@ any-cutting v n chunks = ap (λ (s : State). finalized s n) (feeds-joined chunks
 
 -- the number of four tests in a row
 four : (a b c e : Bool) (d : Digest)
-    → cond a (refused tooLargeInput) (cond b (refused tooSmallInput) (cond c (refused threeQuarterEmpty) (cond e (refused halfEmpty) (record { number = done; digest = d })))) .number
+    → cond a (refused tooLargeInput)
+    (cond b (refused tooSmallInput)
+    (cond c (refused threeQuarterEmpty)
+    (cond e (refused halfEmpty)
+    (record { number = done; digest = d })))) .number
     ≡ cond a tooLargeInput (cond b tooSmallInput (cond c threeQuarterEmpty (cond e halfEmpty done)))
 four true b c e d = refl
 four false true c e d = refl
@@ -60,11 +65,12 @@ module _ (n : ℕ) (s : State) (o : Options) where
       (cond (isHalfEmpty used (s .variant) o) halfEmpty done)))
 
   steps-by : Dec (maximum (s .variant) < n) → Steps
-  unfolding measured isTooLarge classed distributed maximum
+  unfolding measured isTooLarge withCode distributed maximum
   steps-by (yes l) = rw (lt-ltb (maximum (s .variant)) n l)
   steps-by (no l) =
       rw (has-code n (omega arith) .given)
-      (four (ltb (maximum (s .variant)) n) (isTooSmall (s .variant) n o) (isThreeQuarterEmpty (quartiles used) o) (isHalfEmpty used (s .variant) o)
+      (four (ltb (maximum (s .variant)) n) (isTooSmall (s .variant) n o)
+      (isThreeQuarterEmpty (quartiles used) o) (isHalfEmpty used (s .variant) o)
       (digestBy (replaced (quartiles used)) used (s .variant) (s .checksum) (coded n .code) (o .integer)))
 
   steps : Steps
@@ -75,24 +81,24 @@ module _ (v : ℕ) (bytes : List ℕ) (k : known v ≡ true) where
   abbrev fed : State
   fed = feed bytes (fresh v)
 
-  exact-by : (o : Options) → Dec (length bytes < 2 ^ 32) → finalizedWith fed o .number ≡ verdictWith v o bytes
-  unfolding finalizedWith lengthed verdictWith maximum feed
+  exact-by : (o : Options) → Dec (length bytes < 2 ^ 32) → finalizedWith fed o .number ≡ inputNumberWith v o bytes
+  unfolding finalizedWith withLength inputNumberWith maximum feed
   exact-by o (yes h) = rw (processed-below v bytes k h) (rw (variant-stays v bytes) at (steps (length bytes) fed o))
   exact-by o (no h) =
       rw (processed-beyond v bytes k (omega arith), lt-ltb 4_224_281_216 (length bytes) (omega arith)) (steps 4_294_967_295 fed o)
 
 -- an unknown variant
 unknown-six : (v : ℕ) (bytes : List ℕ) (o : Options) → known v ≡ false → finalizedWith (feed bytes (fresh v)) o .number ≡ unknownVariant
-unfolding finalizedWith lengthed processed
+unfolding finalizedWith withLength processed
 unknown-six v bytes o k = rw (variant-stays v bytes, k)
 
 exact-known : (v : ℕ) (o : Options) (bytes : List ℕ) (k : Bool) → known v ≡ k
-    → finalizedWith (feed bytes (fresh v)) o .number ≡ cond k (verdictWith v o bytes) unknownVariant
+    → finalizedWith (feed bytes (fresh v)) o .number ≡ cond k (inputNumberWith v o bytes) unknownVariant
 exact-known v o bytes true e = exact-by v bytes e o (decLt _ _)
 exact-known v o bytes false e = unknown-six v bytes o e
 
-exact-options : (v n : ℕ) (bytes : List ℕ) (b : Bool) → ltb 31 n ≡ b → digestOf v n bytes .number ≡ verdict v n bytes
-unfolding digestOf finalized finalizedBy verdict chosen
+exact-options : (v n : ℕ) (bytes : List ℕ) (b : Bool) → ltb 31 n ≡ b → digestOf v n bytes .number ≡ inputNumber v n bytes
+unfolding digestOf finalized finalizedBy inputNumber chosen
 exact-options v n bytes true e = rw e
 exact-options v n bytes false e =
     rw e (exact-known v (flags (has 1 n) (has 2 n) (has 4 n) (has 8 n) (has 16 n)) bytes (known v) refl)
@@ -125,9 +131,9 @@ zero-distributed used v checksum code o =
     zero-either (isThreeQuarterEmpty (quartiles used) o) (refused threeQuarterEmpty) (cond (isHalfEmpty used v o) (refused halfEmpty) r)
     (zero-refused threeQuarterEmpty) (zero-either (isHalfEmpty used v o) (refused halfEmpty) r (zero-refused halfEmpty) (zero-done d))
 
-zero-classed : (l : Coded) (s : State) (o : Options) → Zero (classed l s o)
-unfolding classed
-zero-classed l s o =
+zero-code : (l : Coded) (s : State) (o : Options) → Zero (withCode l s o)
+unfolding withCode
+zero-code l s o =
     let used = take (s .variant) (s .counters) in
     zero-either (eqb (l .number) done) (distributed used (s .variant) (s .checksum) (l .code) o) (refused (l .number))
     (zero-distributed used (s .variant) (s .checksum) (l .code) o) (zero-refused (l .number))
@@ -135,18 +141,21 @@ zero-classed l s o =
 zero-measured : (n : ℕ) (s : State) (o : Options) → Zero (measured n s o)
 unfolding measured
 zero-measured n s o =
-    zero-either (isTooLarge (s .variant) n) (refused tooLargeInput) (cond (isTooSmall (s .variant) n o) (refused tooSmallInput) (classed (coded n) s o))
+    zero-either (isTooLarge (s .variant) n) (refused tooLargeInput)
+    (cond (isTooSmall (s .variant) n o) (refused tooSmallInput) (withCode (coded n) s o))
     (zero-refused tooLargeInput)
-    (zero-either (isTooSmall (s .variant) n o) (refused tooSmallInput) (classed (coded n) s o) (zero-refused tooSmallInput) (zero-classed (coded n) s o))
+    (zero-either (isTooSmall (s .variant) n o) (refused tooSmallInput) (withCode (coded n) s o)
+    (zero-refused tooSmallInput) (zero-code (coded n) s o))
 
-zero-lengthed : (a : LengthAnswer) (s : State) (o : Options) → Zero (lengthed a s o)
-unfolding lengthed
-zero-lengthed a s o =
-    zero-either (eqb (a .number) done) (measured (counts a) s o) (refused (a .number)) (zero-measured (counts a) s o) (zero-refused (a .number))
+zero-length : (a : LengthAnswer) (s : State) (o : Options) → Zero (withLength a s o)
+unfolding withLength
+zero-length a s o =
+    zero-either (eqb (a .number) done) (measured (countsAs a) s o) (refused (a .number))
+    (zero-measured (countsAs a) s o) (zero-refused (a .number))
 
 -- of every state, also one that no bytes reach
 pub zero-beside-refusal : ZeroBesideRefusal
 unfolding finalized finalizedBy finalizedWith
 zero-beside-refusal s n =
-    zero-either (eqb (chosen n .number) done) (lengthed (processed s) s (chosen n .options)) (refused (chosen n .number))
-    (zero-lengthed (processed s) s (chosen n .options)) (zero-refused (chosen n .number)) .zero
+    zero-either (eqb (chosen n .number) done) (withLength (processed s) s (chosen n .options)) (refused (chosen n .number))
+    (zero-length (processed s) s (chosen n .options)) (zero-refused (chosen n .number)) .zero

@@ -1,5 +1,5 @@
-pub mod Marked
+pub mod Examples
 pub mod Third
 pub mod Agree
 pub mod Inputs
-pub mod Unique
+pub mod Digests

@@ -1,4 +1,4 @@
--- The marked examples (document 01, The marked examples): each question, worked out by the definitions, beside its answer.
+-- The marked examples (docs/RULES.md, section 9): each question, worked out by the definitions, beside its answer.
 -- Where a question has several answers, both sides list them in turn. The letters 'B' to 'E' are the bytes 66 to 69.
 -- Assumes nothing.
 use mathlib.Core.List.{List, [], _∷_, map}
@@ -38,5 +38,5 @@ examples =
     []
 
 -- every question's answer is the one beside it
-abbrev pub Marked : Type 0
-Marked = map (λ (e : Example). e .asked) examples ≡ map (λ (e : Example). e .answer) examples
+abbrev pub ExamplesHold : Type 0
+ExamplesHold = map (λ (e : Example). e .asked) examples ≡ map (λ (e : Example). e .answer) examples

@@ -17,7 +17,7 @@ use Rattle.qratios.specs.declared.RatiosAnswer.{RatiosAnswer}
 use Rattle.qratios.specs.declared.ByteAnswer.{ByteAnswer}
 use Rattle.qratios.specs.Single.{nought, whole, fromBits, single}
 use Rattle.qratios.specs.Ratios.{float, reduced, quotient, integerWhole, floatingWhole, ratioBy, ratiosByte, UpTo, ordered}
-use Rattle.qratios.specs.Ratios.{recordOf, ratiosOf, byteOf}
+use Rattle.qratios.specs.Ratios.{recordOf, ratiosOf, byteAnswered}
 use Rattle.qratios.proofs.Rounding.{below-or-not}
 use Rattle.qratios.proofs.Divide.{quotient-is}
 use Rattle.qratios.proofs.Ieee.{converted, divided-is}
@@ -167,18 +167,18 @@ byte-made i q1 q2 q3 l h e f = rw (e, f)
 
 -- refused
 pub byte-refused : (i : Bool) (q1 q2 q3 : ℕ) (b : Bool) → b ≡ ordered q1 q2 q3 → not b ≡ true
-    → record { number = unorderedQuartiles; byte = 0 } ≡ byteOf i q1 q2 q3
-unfolding byteOf
+    → record { number = unorderedQuartiles; byte = 0 } ≡ byteAnswered i q1 q2 q3
+unfolding byteAnswered
 byte-refused i q1 q2 q3 b e n = rw (test-fails q1 q2 q3 b e n)
 
 -- given
 pub byte-given : (i : Bool) (q1 q2 q3 : ℕ) (b : Bool) (x : ℕ) → b ≡ ordered q1 q2 q3 → not b ≡ false → x ≡ ratiosByte i q1 q2 q3
-    → record { number = done; byte = x } ≡ byteOf i q1 q2 q3
-unfolding byteOf
+    → record { number = done; byte = x } ≡ byteAnswered i q1 q2 q3
+unfolding byteAnswered
 byte-given i q1 q2 q3 b x e n f = rw (test-passes q1 q2 q3 b e n, f)
 
 -- quartiles in order get their byte
-pub byte-of-ordered : (i : Bool) (q1 q2 q3 : ℕ) (r : ByteAnswer) → r ≡ byteOf i q1 q2 q3 → ordered q1 q2 q3 ≡ true
+pub byte-of-ordered : (i : Bool) (q1 q2 q3 : ℕ) (r : ByteAnswer) → r ≡ byteAnswered i q1 q2 q3 → ordered q1 q2 q3 ≡ true
     → r .byte ≡ ratiosByte i q1 q2 q3
-unfolding byteOf
+unfolding byteAnswered
 byte-of-ordered i q1 q2 q3 r e o = rw (e, o)

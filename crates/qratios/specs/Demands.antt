@@ -1,11 +1,11 @@
--- What is promised of the numbers and of the two paths, as statements (document 01, Finalizing, step 6, and The marked examples).
+-- What is promised of the numbers and of the two paths, as statements (docs/RULES.md, section 4, step 6, and section 9).
 -- Assumes nothing.
 use Prim.Native.Nat.{ℕ, suc, _+_, _-_, _*_, _%_, _^_, _≤_, _<_}
 use mathlib.Core.Path.{_≡_}
 use mathlib.Core.Bool.{true, false}
 use Rattle.params.specs.Answers.{done}
 use Rattle.qratios.specs.Single.{Single, top, bottom, bits, fromBits, single}
-use Rattle.qratios.specs.Ratios.{integerWhole, floatingWhole, ratiosOf, byteOf}
+use Rattle.qratios.specs.Ratios.{integerWhole, floatingWhole, ratiosOf, byteAnswered}
 
 -- ---- the single-precision number nearest to n / d, for an n and a d below 2 ^ 64
 
@@ -58,8 +58,8 @@ abbrev pub WithinOne : ℕ → ℕ → Type 0
 WithinOne a b = (a ≤ b + 1) × (b ≤ a + 1)
 
 -- the whole parts of the two paths are equal where 100 * q is exact
-abbrev pub PathsAgree : Type 0
-PathsAgree = (q q3 : ℕ) → 1 ≤ q3 → q3 < 2 ^ 32 → 100 * q < exactBelow → floatingWhole q q3 ≡ integerWhole q q3
+abbrev pub ExactWholesAgree : Type 0
+ExactWholesAgree = (q q3 : ℕ) → 1 ≤ q3 → q3 < 2 ^ 32 → 100 * q < exactBelow → floatingWhole q q3 ≡ integerWhole q q3
 
 -- they are equal for every q of at most q3 up to that q3
 abbrev pub WholesAgree : Type 0
@@ -86,7 +86,7 @@ LightIsExact = (q q3 : ℕ) → q ≤ q3 → q3 ≤ lightThird → 100 * q < exa
 
 -- both paths give one byte of ratios, or one refusal, up to some q3
 abbrev pub BytesAgreeUpTo : ℕ → Type 0
-BytesAgreeUpTo most = (q1 q2 q3 : ℕ) → q3 ≤ most → byteOf true q1 q2 q3 ≡ byteOf false q1 q2 q3
+BytesAgreeUpTo most = (q1 q2 q3 : ℕ) → q3 ≤ most → byteAnswered true q1 q2 q3 ≡ byteAnswered false q1 q2 q3
 
 -- they do at a light q3
 abbrev pub BytesAgree : Type 0
@@ -99,5 +99,5 @@ BytesAgreeFarther = BytesAgreeUpTo agreeingThird
 -- and at the next q3 the bytes differ: 82 mod 16 is 2, and 83 mod 16 is 3
 abbrev pub BytesDiffer : Type 0
 BytesDiffer =
-    (byteOf true 217_582 217_582 (suc agreeingThird) ≡ record { number = done; byte = 34 })
-    × (byteOf false 217_582 217_582 (suc agreeingThird) ≡ record { number = done; byte = 51 })
+    (byteAnswered true 217_582 217_582 (suc agreeingThird) ≡ record { number = done; byte = 34 })
+    × (byteAnswered false 217_582 217_582 (suc agreeingThird) ≡ record { number = done; byte = 51 })

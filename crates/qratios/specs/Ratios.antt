@@ -1,4 +1,4 @@
--- The ratios of the first two quartiles to the third, by both paths, and the answers that carry them (document 01, Finalizing, step 6).
+-- The ratios of the first two quartiles to the third, by both paths, and the answers that carry them (docs/RULES.md, section 4, step 6).
 -- Assumes nothing.
 use Prim.Native.Nat.{ℕ, _+_, _*_, _/_, _%_, _^_, _≤_, _<_}
 use mathlib.Core.Bool.{Bool, cond, _&&_}
@@ -68,8 +68,8 @@ ratiosOf q1 q2 q3 =
     (record { number = unorderedQuartiles; ratios = recordOf nought nought })
 
 -- both ratios in one byte, by either path
-unfoldable pub byteOf : Bool → ℕ → ℕ → ℕ → ByteAnswer
-byteOf integer q1 q2 q3 =
+unfoldable pub byteAnswered : Bool → ℕ → ℕ → ℕ → ByteAnswer
+byteAnswered integer q1 q2 q3 =
     cond (ordered q1 q2 q3)
     (record { number = done; byte = ratiosByte integer q1 q2 q3 })
     (record { number = unorderedQuartiles; byte = 0 })

@@ -1,4 +1,4 @@
--- Single-precision numbers that are not negative, in whole numbers only (document 01, Finalizing, step 6).
+-- Single-precision numbers that are not negative, in whole numbers only (docs/RULES.md, section 4, step 6).
 -- A number is 0, or a whole significand from 8,388,608 to 16,777,215 times a power of two, or over one, as its 32 bits give them.
 -- Nearest, tie and whole part are decided by multiplying out: no fraction stands here.
 -- Assumes nothing.

@@ -8,7 +8,7 @@ ghost use Prim.Native.Nat.{_%_, _<_};
 ghost use lib.Ieee.{binary32, toBits};
 ghost use Rattle.qratios.specs.Single.{single, whole, fromBits};
 ghost use Rattle.qratios.specs.Ratios.{integerWhole, floatingWhole, reduced, ratioBy, ratiosByte, UpTo, ordered};
-ghost use Rattle.qratios.specs.Ratios.{float, recordOf, ratiosOf, byteOf};
+ghost use Rattle.qratios.specs.Ratios.{float, recordOf, ratiosOf, byteAnswered};
 ghost use Rattle.qratios.specs.Ratios as R;
 
 // The two quotients of the floating path, and their whole parts before mod 16.
@@ -167,7 +167,7 @@ fn byte_of(q1: u32, q2: u32, q3: u32, integer: bool) -> u8
 
 // Both ratios in one byte, by either path; 11 unless q1 <= q2 <= q3 and q3 >= 1.
 pub fn ratios_byte(q1: u32, q2: u32, q3: u32, integer: bool) -> ByteAnswer
-    ensures { λ r. ⌜ r ≡ byteOf integer q1 q2 q3 ⌝ }
+    ensures { λ r. ⌜ r ≡ byteAnswered integer q1 q2 q3 ⌝ }
 {
     if !are_ordered(q1, q2, q3) {
         return ByteAnswer {

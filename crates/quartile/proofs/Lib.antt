@@ -3,3 +3,4 @@ pub mod Order
 pub mod Weight
 pub mod Three
 pub mod Laws
+mod Unique

@@ -13,6 +13,7 @@ use lib.ListN.{length, getD, List·getD-eq-default}
 use borrow.Author.Tests.{le-leb, lt-leb, leb-true, leb-false}
 use Rattle.quartile.specs.Counts.{count, countLe, largest}
 use Rattle.quartile.specs.Quartile.{insert, rising, place}
+use Rattle.quartile.specs.Theorems.{From, Rising, RisingRises, CountRising, PlaceCount, PlaceLe, PlaceFew, PlaceGt, PlaceRises}
 use Rattle.quartile.proofs.Counts.{one-most, count-all, count-largest}
 
 -- a number counts alike wherever it is put into a list
@@ -27,7 +28,7 @@ count-insert f x (y ∷ ys) = go (leb x y) (count-insert f x ys)
     go false ih = omega arith
 
 -- rising order keeps the numbers: as many of them pass any test, and so each stands there as often as in the list
-pub count-rising : (f : ℕ → Bool) (xs : List ℕ) → count f (rising xs) ≡ count f xs
+pub count-rising : CountRising
 unfolding rising count
 count-rising f [] = refl
 count-rising f (x ∷ xs) = count-insert f x (rising xs) ∙ ap (λ (n : ℕ). cond (f x) 1 0 + n) (count-rising f xs)
@@ -38,16 +39,6 @@ length-rising xs = sym (all (rising xs)) ∙ count-rising (λ x. true) xs ∙ al
   where
     all : (ys : List ℕ) → count (λ x. true) ys ≡ length ys
     all ys = count-all (λ x. true) (λ x. refl) ys
-
--- no number of the list is below x
-abbrev pub From : ℕ → List ℕ → Type 0
-From x [] = Unit {0}
-From x (y ∷ ys) = (x ≤ y) × From x ys
-
--- no number of the list is below one that stands before it
-abbrev pub Rising : List ℕ → Type 0
-Rising [] = Unit {0}
-Rising (x ∷ xs) = From x xs × Rising xs
 
 -- where no number is below x, none is below a number that is not above x
 from-less : (a x : ℕ) (ys : List ℕ) → a ≤ x → From x ys → From a ys
@@ -75,7 +66,7 @@ rising-insert x (y ∷ ys) r = go (leb x y) refl (rising-insert x ys (r .1))
     go false e ih = let h : y < x = leb-false x y e in (from-insert y x ys (omega arith) (r .0), ih)
 
 -- rising order rises
-pub rising-rises : (xs : List ℕ) → Rising (rising xs)
+pub rising-rises : RisingRises
 unfolding rising
 rising-rises [] = tt
 rising-rises (x ∷ xs) = rising-insert x (rising xs) (rising-rises xs)
@@ -116,17 +107,17 @@ under v (y ∷ ys) (suc k) r h l =
     rw (le-leb y v m) (omega arith)
 
 -- where the number at place k is at most v, more than k of the numbers are
-pub place-count : (xs : List ℕ) (k v : ℕ) → k < length xs → place xs k ≤ v → k < countLe v xs
+pub place-count : PlaceCount
 unfolding place countLe
 place-count xs k v h l = rw count-rising at (under v (rising xs) k (rising-rises xs) (rw length-rising h) l)
 
 -- where it is above v, at most k of them are
-pub place-few : (xs : List ℕ) (k v : ℕ) → k < length xs → v < place xs k → countLe v xs ≤ k
+pub place-few : PlaceFew
 unfolding place countLe
 place-few xs k v h l = rw count-rising at (over v (rising xs) k (rising-rises xs) (rw length-rising h) l)
 
 -- where more than k of the numbers are at most v, the number at place k is
-pub place-le : (xs : List ℕ) (k v : ℕ) → k < length xs → k < countLe v xs → place xs k ≤ v
+pub place-le : PlaceLe
 place-le xs k v h n = go (decLe (place xs k) v)
   where
     go : Dec (place xs k ≤ v) → place xs k ≤ v
@@ -134,7 +125,7 @@ place-le xs k v h n = go (decLe (place xs k) v)
     go (no l) = absurd (omega (arith, place-few xs k v h (omega arith)))
 
 -- where at most k of them are, it is above v
-pub place-gt : (xs : List ℕ) (k v : ℕ) → k < length xs → countLe v xs ≤ k → v < place xs k
+pub place-gt : PlaceGt
 place-gt xs k v h n = go (decLt v (place xs k))
   where
     go : Dec (v < place xs k) → v < place xs k
@@ -147,7 +138,7 @@ unfolding place
 place-past xs k h = List·getD-eq-default (rising xs) 0 (rw length-rising h)
 
 -- later places hold no lesser numbers
-pub place-rises : (xs : List ℕ) (j k : ℕ) → j ≤ k → k < length xs → place xs j ≤ place xs k
+pub place-rises : PlaceRises
 place-rises xs j k l h = place-le xs j (place xs k) (omega arith) (omega (arith, place-count xs k (place xs k) h (omega arith)))
 
 -- no place holds more than the largest number

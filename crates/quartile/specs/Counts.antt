@@ -1,4 +1,4 @@
--- How many of a list's numbers are not 0 (document 01, Finalizing, step 5), and the counts by which the number at a place is found.
+-- How many of a list's numbers are not 0 (docs/RULES.md, section 4, step 5), and the counts by which the number at a place is found.
 -- Assumes nothing.
 use Prim.Native.Nat.{ℕ, _+_, max}
 use mathlib.Core.Bool.{Bool, cond, not}

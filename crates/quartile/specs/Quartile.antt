@@ -1,4 +1,4 @@
--- The quartiles of the used counters (document 01, Finalizing, step 3).
+-- The quartiles of the used counters (docs/RULES.md, section 4, step 3).
 -- Assumes nothing.
 use Prim.Native.Nat.{ℕ, _-_, _*_, _/_}
 use mathlib.Core.Bool.{cond}

@@ -27,13 +27,13 @@ use Rattle.parse.specs.Reading.{readOf}
 use Rattle.generate.specs.declared.State.{State}
 use Rattle.generate.specs.declared.StateAnswer.{StateAnswer}
 use Rattle.generate.specs.Feed.{fresh, feed}
-use Rattle.generate.specs.Answer.{marked, made, updated}
+use Rattle.generate.specs.Answer.{marked, newAnswer, updated}
 use Rattle.generate.proofs.Chunks.{updated-none, two-updates}
 use Rattle.options.specs.declared.Chosen.{Chosen}
 use Rattle.options.specs.Options.{chosen}
 use Rattle.finalize.specs.declared.Finalized.{Finalized}
 use Rattle.finalize.specs.Final.{finalized, digestOf}
-use Rattle.saltcurtain.specs.Entries.{kept, judged, given, digested, rewritten, ratioed, classed}
+use Rattle.saltcurtain.specs.Entries.{kept, argumentNumber, given, digested, rewritten, ratiosWritten, codeWritten}
 
 -- ---- the arguments
 
@@ -46,8 +46,8 @@ options-by n false e z = e
 options-few : (n : ℕ) (c : Chosen) → c ≡ chosen n → c .number ≡ 0 → ltb 31 n ≡ false
 options-few n c e z = options-by n (ltb 31 n) refl (sym (ap (λ (x : Chosen). x .number) e) ∙ z)
 
-refused-by : (v n room : ℕ) (b : Bool) → ltb 31 n ≡ b → (chosen n .number ≡ 0 → ⊥) → chosen n .number ≡ judged v n room
-unfolding chosen judged
+refused-by : (v n room : ℕ) (b : Bool) → ltb 31 n ≡ b → (chosen n .number ≡ 0 → ⊥) → chosen n .number ≡ argumentNumber v n room
+unfolding chosen argumentNumber
 refused-by v n room true e z = rw e
 refused-by v n room false e z = absurd (z (rw e))
 
@@ -77,37 +77,37 @@ unfolding sizeOf
 size-six v t e k = rw (e, k)
 
 -- 10
-pub judged-options : (v n room : ℕ) (c : Chosen) → c ≡ chosen n → (c .number ≡ 0 → ⊥) → c .number ≡ judged v n room
-judged-options v n room c e z = rw e (refused-by v n room (ltb 31 n) refl (rw e at z))
+pub argument-options : (v n room : ℕ) (c : Chosen) → c ≡ chosen n → (c .number ≡ 0 → ⊥) → c .number ≡ argumentNumber v n room
+argument-options v n room c e z = rw e (refused-by v n room (ltb 31 n) refl (rw e at z))
 
 module _ (v n room : ℕ) (c : Chosen) (t : SizeAnswer) (e : c ≡ chosen n) (z : c .number ≡ 0) (f : t ≡ sizeOf v) where
   -- 6
-  pub judged-variant : (t .number ≡ 0 → ⊥) → t .number ≡ judged v n room
-  unfolding judged
-  judged-variant y =
+  pub argument-variant : (t .number ≡ 0 → ⊥) → t .number ≡ argumentNumber v n room
+  unfolding argumentNumber
+  argument-variant y =
       let k = size-none v t f y in
       rw (options-few n c e z, k) (size-six v t f k)
 
   -- 7
-  pub judged-room : t .number ≡ 0 → room < t .size → shortDestination ≡ judged v n room
-  unfolding judged
-  judged-room y h =
+  pub argument-room : t .number ≡ 0 → room < t .size → shortDestination ≡ argumentNumber v n room
+  unfolding argumentNumber
+  argument-room y h =
       let k = size-known v t f y in
       rw (options-few n c e z, k, lt-ltb room (textSize v) (omega (arith, size-is v t f k)))
 
   -- none of them
-  pub judged-done : t .number ≡ 0 → t .size ≤ room → done ≡ judged v n room
-  unfolding judged
-  judged-done y h =
+  pub argument-done : t .number ≡ 0 → t .size ≤ room → done ≡ argumentNumber v n room
+  unfolding argumentNumber
+  argument-done y h =
       let k = size-known v t f y in
       rw (options-few n c e z, k, le-ltb room (textSize v) (omega (arith, size-is v t f k)))
 
--- arguments that are judged well have a known variant
-judged-by : (v n room : ℕ) (b k : Bool) → ltb 31 n ≡ b → known v ≡ k → judged v n room ≡ 0 → known v ≡ true
-unfolding judged
-judged-by v n room true k p q e = absurd (omega (arith, rw p at e))
-judged-by v n room false true p q e = q
-judged-by v n room false false p q e = absurd (omega (arith, rw (p, q) at e))
+-- arguments that are argumentNumber well have a known variant
+argument-known : (v n room : ℕ) (b k : Bool) → ltb 31 n ≡ b → known v ≡ k → argumentNumber v n room ≡ 0 → known v ≡ true
+unfolding argumentNumber
+argument-known v n room true k p q e = absurd (omega (arith, rw p at e))
+argument-known v n room false true p q e = q
+argument-known v n room false false p q e = absurd (omega (arith, rw (p, q) at e))
 
 -- ---- finalizing and writing
 module _ (s : State) (n : ℕ) (f : Finalized) (lent : List ℕ) (e : f ≡ finalized s n) where
@@ -122,19 +122,19 @@ module _ (s : State) (n : ℕ) (f : Finalized) (lent : List ℕ) (e : f ≡ fina
   given-done r l z w = rw (← e, eq-eqb (f .number) 0 z) w
 
 -- ---- the one-shot digest
-module _ (v n k : ℕ) (bytes lent : List ℕ) (e : k ≡ judged v n (length lent)) where
+module _ (v n k : ℕ) (bytes lent : List ℕ) (e : k ≡ argumentNumber v n (length lent)) where
   -- the arguments' refusal leaves the memory
   pub digested-refused : (k ≡ 0 → ⊥) → Written k lent (digested v n bytes lent)
   unfolding digested
   digested-refused z = rw (← e, ne-eqb k 0 z) (record { answered = refl; left = refl })
 
-  module _ (z : k ≡ 0) (m : StateAnswer) (p : m ≡ made v) where
+  module _ (z : k ≡ 0) (m : StateAnswer) (p : m ≡ newAnswer v) where
     is-known : known v ≡ true
-    is-known = judged-by v n (length lent) (ltb 31 n) (known v) refl refl (sym e ∙ z)
+    is-known = argument-known v n (length lent) (ltb 31 n) (known v) refl refl (sym e ∙ z)
 
     -- a state that took the bytes in after a fresh one
     taken : updated (m .state) bytes .state ≡ feed bytes (fresh v)
-    unfolding made updated fresh marked
+    unfolding newAnswer updated fresh marked
     taken = rw (p, is-known, is-known)
 
     -- the answer is that of the state after all bytes, however they were fed
@@ -209,9 +209,9 @@ module _ (v : ℕ) (text lent : List ℕ) (t : SizeAnswer) (f : t ≡ sizeOf v) 
 -- ---- the ratio record
 module _ (q1 q2 q3 : ℕ) (a : RatiosAnswer) (lent : List ℕ) (e : a ≡ ratiosOf q1 q2 q3) where
   -- 11
-  pub ratioed-refused : (a .number ≡ 0 → ⊥) → Written (a .number) lent (ratioed q1 q2 q3 lent)
-  unfolding ratioed
-  ratioed-refused z = rw (← e, ne-eqb (a .number) 0 z) (record { answered = refl; left = refl })
+  pub ratios-refused : (a .number ≡ 0 → ⊥) → Written (a .number) lent (ratiosWritten q1 q2 q3 lent)
+  unfolding ratiosWritten
+  ratios-refused z = rw (← e, ne-eqb (a .number) 0 z) (record { answered = refl; left = refl })
 
   in-order-by : (b : Bool) → ordered q1 q2 q3 ≡ b → a .number ≡ 0 → ordered q1 q2 q3 ≡ true
   unfolding ratiosOf
@@ -238,19 +238,20 @@ module _ (q1 q2 q3 : ℕ) (a : RatiosAnswer) (lent : List ℕ) (e : a ≡ ratios
     second-number = rw (e, o) (t2 .no-nan)
 
     -- the four numbers
-    pub ratioed-done : Written done
-        (toBits binary32 (a .ratios .quotient1) ∷ toBits binary32 (a .ratios .quotient2) ∷ a .ratios .whole1 ∷ a .ratios .whole2 ∷ []) (ratioed q1 q2 q3 lent)
-    unfolding ratioed ratiosOf
-    ratioed-done = rw (e, o) (record { answered = refl; left = rw (t1 .back, t2 .back) })
+    pub ratios-done : Written done
+        (toBits binary32 (a .ratios .quotient1) ∷ toBits binary32 (a .ratios .quotient2) ∷ a .ratios .whole1 ∷ a .ratios .whole2 ∷ [])
+        (ratiosWritten q1 q2 q3 lent)
+    unfolding ratiosWritten ratiosOf
+    ratios-done = rw (e, o) (record { answered = refl; left = rw (t1 .back, t2 .back) })
 
 -- ---- the code of a length
 module _ (n : ℕ) (c : Coded) (lent : List ℕ) (e : c ≡ coded n) where
   -- 5
-  pub classed-refused : (c .number ≡ 0 → ⊥) → Written (c .number) lent (classed n lent)
-  unfolding classed
-  classed-refused z = rw (← e, ne-eqb (c .number) 0 z) (record { answered = refl; left = refl })
+  pub code-refused : (c .number ≡ 0 → ⊥) → Written (c .number) lent (codeWritten n lent)
+  unfolding codeWritten
+  code-refused z = rw (← e, ne-eqb (c .number) 0 z) (record { answered = refl; left = refl })
 
   -- the code
-  pub classed-done : c .number ≡ 0 → Written done (c .code ∷ []) (classed n lent)
-  unfolding classed
-  classed-done z = rw (← e, eq-eqb (c .number) 0 z) (record { answered = refl; left = refl })
+  pub code-done : c .number ≡ 0 → Written done (c .code ∷ []) (codeWritten n lent)
+  unfolding codeWritten
+  code-done z = rw (← e, eq-eqb (c .number) 0 z) (record { answered = refl; left = refl })

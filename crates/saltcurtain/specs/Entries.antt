@@ -1,5 +1,5 @@
--- What the C entry points answer, and what they leave in the lent memory (document 01, Numbers for every answer: the order of the
--- refusals). A refusal leaves it as it was.
+-- What the C entry points answer, and what they leave in the lent memory (docs/RULES.md, sections 6 and 8).
+-- A refusal leaves it as it was.
 -- Assumes nothing.
 use Prim.Native.Nat.{ℕ}
 use mathlib.Core.Bool.{cond, not}
@@ -8,6 +8,7 @@ use lib.Dec.{ltb, eqb}
 use lib.ListN.{length}
 use Rattle.params.specs.Variants.{known}
 use Rattle.params.specs.Answers.{done, unknownVariant, shortDestination, unknownOption}
+use Rattle.options.specs.Options.{hasUnknownBit}
 use Rattle.length.specs.Code.{coded}
 use Rattle.qratios.specs.Single.{bits, whole}
 use Rattle.qratios.specs.Ratios.{quotient, ordered, ratiosOf}
@@ -26,9 +27,9 @@ abbrev pub writtenIf : ℕ → Digest → List ℕ → Wrote
 writtenIf n d lent = cond (eqb n done) (writeOf d lent) (kept n lent)
 
 -- the arguments of a one-shot digest: 10, then 6, then 7
-unfoldable pub judged : ℕ → ℕ → ℕ → ℕ
-judged v n room =
-    cond (ltb 31 n) unknownOption
+unfoldable pub argumentNumber : ℕ → ℕ → ℕ → ℕ
+argumentNumber v n room =
+    cond (hasUnknownBit n) unknownOption
     (cond (not (known v)) unknownVariant
     (cond (ltb room (textSize v)) shortDestination done))
 
@@ -36,10 +37,10 @@ judged v n room =
 unfoldable pub given : Finalized → List ℕ → Wrote
 given f lent = writtenIf (f .number) (f .digest) lent
 
--- the one-shot digest: the arguments are judged, then the finalizing steps
+-- the one-shot digest: the arguments are argumentNumber, then the finalizing steps
 unfoldable pub digested : ℕ → ℕ → List ℕ → List ℕ → Wrote
 digested v n bytes lent =
-    cond (eqb (judged v n (length lent)) done) (given (digestOf v n bytes) lent) (kept (judged v n (length lent)) lent)
+    cond (eqb (argumentNumber v n (length lent)) done) (given (digestOf v n bytes) lent) (kept (argumentNumber v n (length lent)) lent)
 
 -- a text read and written again: 6, then 7, then the reader's 8 and 9
 unfoldable pub rewritten : ℕ → List ℕ → List ℕ → Wrote
@@ -49,8 +50,8 @@ rewritten v text lent =
     (writtenIf (readOf v text .number) (readOf v text .digest) lent))
 
 -- the ratio record: the bits of both quotients, then both whole parts
-unfoldable pub ratioed : ℕ → ℕ → ℕ → List ℕ → Wrote
-ratioed q1 q2 q3 lent =
+unfoldable pub ratiosWritten : ℕ → ℕ → ℕ → List ℕ → Wrote
+ratiosWritten q1 q2 q3 lent =
     cond (eqb (ratiosOf q1 q2 q3 .number) done)
     (record {
       number = done;
@@ -59,5 +60,6 @@ ratioed q1 q2 q3 lent =
     (kept (ratiosOf q1 q2 q3 .number) lent)
 
 -- the code of a length
-unfoldable pub classed : ℕ → List ℕ → Wrote
-classed n lent = cond (eqb (coded n .number) done) (record { number = done; destination = coded n .code ∷ [] }) (kept (coded n .number) lent)
+unfoldable pub codeWritten : ℕ → List ℕ → Wrote
+codeWritten n lent =
+    cond (eqb (coded n .number) done) (record { number = done; destination = coded n .code ∷ [] }) (kept (coded n .number) lent)

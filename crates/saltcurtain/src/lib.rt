@@ -6,16 +6,16 @@ ghost use Prim.Native.Nat.{_<_, min};
 ghost use Rattle.generate.specs.Answer.{updated};
 ghost use Rattle.text.specs.Text.{Written};
 ghost use Rattle.finalize.specs.Final.{finalized};
-ghost use Rattle.saltcurtain.specs.Entries.{judged, given, digested, rewritten, ratioed, classed};
+ghost use Rattle.saltcurtain.specs.Entries.{argumentNumber, given, digested, rewritten, ratiosWritten, codeWritten};
 use generate::State;
 
 // 10, then 6, then 7 of a one-shot digest's arguments, or 0.
 fn judge(variant: u32, options: u32, room: usize) -> u32
-    ensures { λ r. ⌜ r ≡ judged variant options room ⌝ }
+    ensures { λ r. ⌜ r ≡ argumentNumber variant options room ⌝ }
 {
-    let c = options::options_of(options);
-    if c.number != params::DONE {
-        return c.number;
+    let o = options::options_of(options);
+    if o.number != params::DONE {
+        return o.number;
     }
     let t = text::text_size(variant);
     if t.number != params::DONE {
@@ -133,7 +133,7 @@ pub extern "C" fn saltcurtain_rewrite(variant: u32, text: &[u8], destination: &m
 // The bits of both quotients of the floating path, then their whole parts.
 #[no_mangle]
 pub extern "C" fn saltcurtain_ratios(q1: u32, q2: u32, q3: u32, out: &mut [u32; 4]) -> u32
-    ensures { λ r. ⌜ Written r (now (out .exit)) (ratioed q1 q2 q3 (now (out .entry))) ⌝ }
+    ensures { λ r. ⌜ Written r (now (out .exit)) (ratiosWritten q1 q2 q3 (now (out .entry))) ⌝ }
 {
     let a = qratios::quartile_ratios(q1, q2, q3);
     if a.number != params::DONE {
@@ -152,12 +152,13 @@ pub extern "C" fn saltcurtain_ratios(q1: u32, q2: u32, q3: u32, out: &mut [u32; 
 // The code of a length.
 #[no_mangle]
 pub extern "C" fn saltcurtain_length_code(n: u32, out: &mut [u32; 1]) -> u32
-    ensures { λ r. ⌜ Written r (now (out .exit)) (classed n (now (out .entry))) ⌝ }
+    ensures { λ r. ⌜ Written r (now (out .exit)) (codeWritten n (now (out .entry))) ⌝ }
 {
     let c = length::length_code(n);
     if c.number != params::DONE {
         return c.number;
     }
-    *out = [c.code as u32];
+    let code = c.code as u32;
+    *out = [code];
     params::DONE
 }

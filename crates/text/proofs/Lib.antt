@@ -1,3 +1,4 @@
 pub mod Characters
 pub mod Writing
 mod Apart
+pub mod Unique

@@ -1,4 +1,4 @@
--- The text of a digest, and what writing it answers and leaves (document 01, Text and Numbers for every answer).
+-- The text of a digest, and what writing it answers and leaves (docs/RULES.md, sections 5 and 6).
 -- Assumes nothing.
 use mathlib.Core.Bool.{cond, not}
 use mathlib.Core.List.{List, [], _∷_, _++_}

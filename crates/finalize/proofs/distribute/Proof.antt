@@ -17,9 +17,6 @@ refuse-requires c κs = search needs
 returns : tie.Need-returns
 returns c = search distributed-three
 
-is-half-empty-requires : tie.Need-is-half-empty-requires
-is-half-empty-requires c κs = search needs
-
 refuse-requires-2 : tie.Need-refuse-requires-2
 refuse-requires-2 c κs = search needs
 
@@ -43,7 +40,6 @@ distribute-spec =
     is-three-quarter-empty-requires
     refuse-requires
     returns
-    is-half-empty-requires
     refuse-requires-2
     returns-2
     replace-requires

@@ -6,6 +6,9 @@ use borrow.Author.Needs.{needs}
 use Rattle.finalize.proofs.distribute_first.Statement.{statement}
 use Rattle.finalize.proofs.distribute_first.Tie as tie
 
+is-half-empty-requires : tie.Need-is-half-empty-requires
+is-half-empty-requires c κs = search needs
+
 slice-aggregate-distribute : tie.Need-slice-aggregate-distribute
 slice-aggregate-distribute c = simp length-take (omega arith)
 
@@ -16,4 +19,6 @@ returns : tie.Need-returns
 returns c = search needs
 
 pub distribute-first-spec : {M : Type 1} → statement M
-distribute-first-spec = tie.close (tie.spec slice-aggregate-distribute distribute-requires returns)
+distribute-first-spec =
+    tie.close
+    (tie.spec is-half-empty-requires slice-aggregate-distribute distribute-requires returns)

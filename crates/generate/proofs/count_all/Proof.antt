@@ -14,23 +14,17 @@ slice-aggregate-over c = search fours-length
 over-requires : tie.Need-over-requires
 over-requires c κs = search needs
 
-subst-table-requires : tie.Need-subst-table-requires
-subst-table-requires c κs = search needs
+sub-one-by-one : tie.Need-sub-one-by-one
+sub-one-by-one c = search needs
 
-last-table-requires : tie.Need-last-table-requires
-last-table-requires c κs = search needs
+part-one-by-one-start : tie.Need-part-one-by-one-start
+part-one-by-one-start c = search needs
 
-sub-run : tie.Need-sub-run
-sub-run c = search needs
+part-one-by-one-end : tie.Need-part-one-by-one-end
+part-one-by-one-end c = search needs
 
-part-run-start : tie.Need-part-run-start
-part-run-start c = search needs
-
-part-run-end : tie.Need-part-run-end
-part-run-end c = search needs
-
-run-requires : tie.Need-run-requires
-run-requires c κs = search needs
+one-by-one-requires : tie.Need-one-by-one-requires
+one-by-one-requires c κs = search needs
 
 returns : tie.Need-returns
 returns c = search ran-cut
@@ -42,10 +36,8 @@ count-all-spec =
     fours-requires
     slice-aggregate-over
     over-requires
-    subst-table-requires
-    last-table-requires
-    sub-run
-    part-run-start
-    part-run-end
-    run-requires
+    sub-one-by-one
+    part-one-by-one-start
+    part-one-by-one-end
+    one-by-one-requires
     returns)

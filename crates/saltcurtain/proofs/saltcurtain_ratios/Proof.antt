@@ -1,6 +1,6 @@
 -- `saltcurtain::saltcurtain_ratios` meets its contract.
 -- Assumes nothing.
-use Rattle.saltcurtain.proofs.Laws.{ratioed-refused, first-number, second-number, ratioed-done}
+use Rattle.saltcurtain.proofs.Laws.{ratios-refused, first-number, second-number, ratios-done}
 use borrow.Author.Needs.{needs}
 use Rattle.saltcurtain.proofs.saltcurtain_ratios.Statement.{statement}
 use Rattle.saltcurtain.proofs.saltcurtain_ratios.Tie as tie
@@ -9,7 +9,7 @@ quartile-ratios-requires : tie.Need-quartile-ratios-requires
 quartile-ratios-requires c κs = search needs
 
 returns : tie.Need-returns
-returns c = search (ratioed-refused, c .if1 .taken)
+returns c = search (ratios-refused, c .if1 .taken)
 
 float-to-bits-t8 : tie.Need-float-to-bits-t8
 float-to-bits-t8 c = search (first-number, needs)
@@ -18,7 +18,7 @@ float-to-bits-t9 : tie.Need-float-to-bits-t9
 float-to-bits-t9 c = search (second-number, needs)
 
 returns-2 : tie.Need-returns-2
-returns-2 c = search (ratioed-done, needs)
+returns-2 c = search (ratios-done, needs)
 
 pub saltcurtain-ratios-spec : {M : Type 1} → statement M
 saltcurtain-ratios-spec =

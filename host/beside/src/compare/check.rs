@@ -112,8 +112,10 @@ pub fn digest_of(
         }
         Some(known) => rust(known),
     };
-    if matches!(wanted, Err(10 | 6)) {
-        tally.known(Known::Numbers);
+    match wanted {
+        Err(10) => tally.known(Known::UnknownOption),
+        Err(6) => tally.known(Known::UnknownVariant),
+        _ => {}
     }
     let (number, same, left) = call_on(room, &wanted, |destination| match piece {
         None => raw::digest(variant, options, bytes, destination),
@@ -125,8 +127,16 @@ pub fn digest_of(
 /// A text read and written again by the port, beside the Rust's reader narrowed to the one form.
 pub fn rewrite(tally: &mut Tally, variant: u32, text: &[u8], room: usize) {
     let wanted = match Variant::from_number(variant) {
-        None => Err(6),
-        Some(known) if room < known.text_len() => Err(7),
+        None => {
+            tally.known(Known::UnknownVariant);
+            Err(6)
+        }
+        Some(known) if room < known.text_len() => {
+            if oracle::rewrite(known, text, Prefix::Needed).is_err() {
+                tally.known(Known::RoomBeforeText);
+            }
+            Err(7)
+        }
         Some(known) => narrow(tally, known, text),
     };
     let (number, same, bytes) = call_on(room, &wanted, |destination| raw::rewrite(variant, text, destination));
@@ -166,6 +176,7 @@ pub fn ratios(tally: &mut Tally, q1: u32, q2: u32, q3: u32) {
         let (one, two) = (quotient(q1), quotient(q2));
         (0, [one.to_bits(), two.to_bits(), one as u32, two as u32])
     } else {
+        tally.known(Known::Quartiles);
         (11, before)
     };
     let mut out = before;
@@ -180,7 +191,10 @@ pub fn length_code(tally: &mut Tally, n: u32) {
     let before = 0xdead_0005;
     let (wanted, after) = match oracle::length_code(n) {
         Some(code) => (0, code),
-        None => (5, before),
+        None => {
+            tally.known(Known::NoLengthCode);
+            (5, before)
+        }
     };
     let mut out = [before];
     let number = raw::length_code(n, &mut out);

@@ -46,8 +46,8 @@ fn run(plan: &Plan, section: &Section, job: u64) -> Tally {
 
 /// Prints what the list of differences says.
 pub fn print_known() {
-    for (which, about) in known::LIST {
-        println!("{which:?}: {about}");
+    for (which, number, about) in known::LIST {
+        println!("{} {which:?}: {about}", known::name(number));
     }
 }
 
@@ -129,9 +129,9 @@ pub fn all(plan: &Plan) -> ExitCode {
     }
     let mut good = total.differences == 0;
     println!("listed differences:");
-    for (which, about) in known::LIST {
+    for (which, number, about) in known::LIST {
         let met = total.known.get(&which).copied().unwrap_or(0);
-        println!("{met:>9} times {about}");
+        println!("{met:>9} times {}: {about}", known::name(number));
         if met == 0 && plan.only.is_none() {
             println!("          NOT MET: the listed difference {which:?} has no test in this run");
             good = false;

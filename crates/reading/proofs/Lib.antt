@@ -1,0 +1,2 @@
+pub mod Bytes
+mod Laws

@@ -1,0 +1,2 @@
+mod Making
+mod Unique
