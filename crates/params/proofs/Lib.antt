@@ -1,3 +1,4 @@
 pub mod Variants
 pub mod Every
 pub mod Tests
+pub mod One

@@ -1,0 +1,3 @@
+pub mod Distance
+pub mod Words
+pub mod Theorems
