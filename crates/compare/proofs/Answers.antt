@@ -1,50 +1,104 @@
--- The answers of `distance`: one law for each way out, in the code's own terms.
+-- The answers: one law for each way out of a function, in the code's own terms, and what a comparability of 0 says.
 -- Assumes nothing.
 use mathlib.Core.Path.{_≡_, refl, sym, _∙_}
-use mathlib.Core.Bool.{Bool, true, false, not}
-use Prim.Native.Nat.{ℕ, _+_, _*_, _/_, _%_}
-use borrow.Author.Tests.{not-true, eq-eqb, ne-eqb}
+use mathlib.Core.Bool.{Bool, true, false, cond, not, _&&_}
+use Prim.Native.Nat.{ℕ, _+_, _*_, _/_, _%_, _<_}
+use native.Mathlib.Omega.{arith}
+use lib.Dec.{eqb}
+use borrow.Author.Tests.{not-true, eq-eqb, ne-eqb, eqb-true}
 use Rattle.params.specs.Variants.{known}
 use Rattle.params.specs.Answers.{done, unknownVariant, unlikeDigests}
 use Rattle.params.proofs.Tests.{passed}
-use Rattle.params.proofs.Variants.{by-variant}
-use Rattle.body.specs.Body.{bytesOf}
 use Rattle.hash.specs.declared.Digest.{Digest}
 use Rattle.compare.specs.declared.DistanceAnswer.{DistanceAnswer}
-use Rattle.compare.specs.Distance.{bodyCost, lengthCost, ratioCost, checksumCost, costOf, refusedDistance, distanceOf}
+use Rattle.compare.specs.declared.Head.{Head}
+use Rattle.compare.specs.Distance.{bodyCost, lengthCost, ratioCost, checksumCost, costOf}
+use Rattle.compare.specs.Distance.{refusedDistance, comparability, distanceOf, headOf, joined}
 
--- a known variant's bytes have four codes each
-pub four-each : (v : ℕ) → known v ≡ true → 4 * bytesOf v ≡ v
-four-each = by-variant (λ v. 4 * bytesOf v ≡ v) refl refl refl
+-- ---- which number
 
-module _ (a b : Digest) (k : Bool) (p : k ≡ known (a .variant)) where
+module _ (v w : ℕ) (k : Bool) (p : k ≡ known v) where
   -- 6 for the first
-  pub distance-6 : (r : DistanceAnswer) → not k ≡ true → r ≡ refusedDistance unknownVariant → r ≡ distanceOf a b
-  unfolding distanceOf
-  distance-6 r n q = rw (q, ← p, not-true k n)
+  pub unlike-first : not k ≡ true → unknownVariant ≡ cond (not (known v && known w)) unknownVariant unlikeDigests
+  unlike-first n = rw (← p, not-true k n)
 
-  module _ (n : not k ≡ false) (l : Bool) (q : l ≡ known (b .variant)) where
+  module _ (n : not k ≡ false) (l : Bool) (q : l ≡ known w) where
     -- 6 for the second
-    pub distance-6-next : (r : DistanceAnswer) → not l ≡ true → r ≡ refusedDistance unknownVariant → r ≡ distanceOf a b
-    unfolding distanceOf
-    distance-6-next r m e = rw (e, passed (known (a .variant)) k p n, ← q, not-true l m)
+    pub unlike-second : not l ≡ true → unknownVariant ≡ cond (not (known v && known w)) unknownVariant unlikeDigests
+    unlike-second m = rw (passed (known v) k p n, ← q, not-true l m)
 
-    module _ (m : not l ≡ false) where
-      -- 12
-      pub distance-12 : (r : DistanceAnswer) → (a .variant ≡ b .variant → ⊥) → r ≡ refusedDistance unlikeDigests → r ≡ distanceOf a b
-      unfolding distanceOf
-      distance-12 r f e =
-          rw (e, passed (known (a .variant)) k p n, passed (known (b .variant)) l q m, ne-eqb (a .variant) (b .variant) f)
+    -- 12
+    pub unlike-both : not l ≡ false → unlikeDigests ≡ cond (not (known v && known w)) unknownVariant unlikeDigests
+    unlike-both m = rw (passed (known v) k p n, passed (known w) l q m)
 
-      -- 0
-      pub distance-0 : (s t u q₁ q₂ c : ℕ) → a .variant ≡ b .variant → s ≡ bytesOf (a .variant)
-          → t ≡ bodyCost (4 * s) (a .body) (b .body) → u ≡ lengthCost (a .«length_code») (b .«length_code»)
-          → q₁ ≡ ratioCost (a .ratios % 16) (b .ratios % 16) → q₂ ≡ ratioCost (a .ratios / 16) (b .ratios / 16)
-          → c ≡ checksumCost (a .checksum) (b .checksum)
-          → record { number = done; distance = t + u + q₁ + q₂ + c } ≡ distanceOf a b
-      unfolding distanceOf costOf
-      distance-0 s t u q₁ q₂ c f e₀ e₁ e₂ e₃ e₄ e₅ =
-          let known-a = passed (known (a .variant)) k p n in
-          let known-b = passed (known (b .variant)) l q m in
-          let size : 4 * bytesOf (a .variant) ≡ a .variant = four-each (a .variant) known-a in
-          rw (known-a, known-b, eq-eqb (a .variant) (b .variant) f, e₁, e₂, e₃, e₄, e₅, e₀, size)
+-- two that differ
+pub comparable-unlike : (v w r : ℕ) → (v ≡ w → ⊥) → r ≡ cond (not (known v && known w)) unknownVariant unlikeDigests
+    → r ≡ comparability v w
+unfolding comparability
+comparable-unlike v w r n e = rw (ne-eqb v w n) e
+
+-- one that is unknown, and one that is known
+pub comparable-unknown : (v w : ℕ) (k : Bool) → v ≡ w → k ≡ known v → not k ≡ true → unknownVariant ≡ comparability v w
+unfolding comparability
+comparable-unknown v w k e p n = rw (← p, not-true k n)
+
+pub comparable-known : (v w : ℕ) (k : Bool) → v ≡ w → k ≡ known v → not k ≡ false → done ≡ comparability v w
+unfolding comparability
+comparable-known v w k e p n = rw (← e, passed (known v) k p n, eq-eqb v v refl)
+
+-- what 0 says
+pub record Comparable (v w : ℕ) : Type 0 where
+  pub first : known v ≡ true
+  pub second : known w ≡ true
+  pub one : v ≡ w
+
+pub comparable-says : (v w : ℕ) → comparability v w ≡ 0 → Comparable v w
+unfolding comparability
+comparable-says v w e = go (known v) refl (known w) refl (eqb v w) refl
+  where
+    go : (p : Bool) → known v ≡ p → (q : Bool) → known w ≡ q → (r : Bool) → eqb v w ≡ r → Comparable v w
+    go false k q l r s = absurd (omega (arith, rw k at e))
+    go true k false l r s = absurd (omega (arith, rw (k, l) at e))
+    go true k true l false s = absurd (omega (arith, rw (k, l, s) at e))
+    go true k true l true s = record { first = k; second = l; one = eqb-true v w s }
+
+-- and where it is given
+pub comparable-one : (v w : ℕ) → known v ≡ true → v ≡ w → comparability v w ≡ 0
+unfolding comparability
+comparable-one v w k e = rw (← e, k, eq-eqb v v refl)
+
+-- the variant that the cost asks for is known
+pub known-first : (v w n : ℕ) → n ≡ comparability v w → n ≡ 0 → known v ≡ true
+known-first v w n e z = comparable-says v w (sym e ∙ z) .first
+
+-- ---- the cost
+
+pub cost-sum : (a b : Digest) (u q₁ q₂ c t : ℕ) → u ≡ lengthCost (a .«length_code») (b .«length_code»)
+    → q₁ ≡ ratioCost (a .ratios % 16) (b .ratios % 16) → q₂ ≡ ratioCost (a .ratios / 16) (b .ratios / 16)
+    → c ≡ checksumCost (a .checksum) (b .checksum) → t ≡ bodyCost (a .variant) (a .body) (b .body)
+    → t + (u + q₁ + q₂ + c) ≡ costOf a b
+unfolding costOf
+cost-sum a b u q₁ q₂ c t e₁ e₂ e₃ e₄ e₅ = omega arith
+
+-- ---- the answers
+
+module _ (a b : Digest) (n : ℕ) (e : n ≡ comparability (a .variant) (b .variant)) where
+  -- 6 and 12
+  pub distance-refused : (r : DistanceAnswer) → (n ≡ 0 → ⊥) → r ≡ refusedDistance n → r ≡ distanceOf a b
+  unfolding distanceOf
+  distance-refused r z q = rw (q, ← e, ne-eqb n 0 z)
+
+  -- 0
+  pub distance-done : (s : ℕ) → n ≡ 0 → s ≡ costOf a b → record { number = done; distance = s } ≡ distanceOf a b
+  unfolding distanceOf
+  distance-done s z q = rw (← e, eq-eqb n 0 z, q)
+
+  -- a digest taken apart and put together
+  pub distance-whole : (h k : Head) (s : ℕ) → n ≡ 0 → h ≡ headOf a → k ≡ headOf b
+      → s ≡ costOf (joined h (a .body)) (joined k (b .body)) → record { number = done; distance = s } ≡ distanceOf a b
+  distance-whole h k s z p q d = distance-done s z (rw (p, q) at d)
+
+-- the variant of a digest's head is the digest's
+pub known-head : (a b : Digest) (n : ℕ) (h : Head) → n ≡ comparability (a .variant) (b .variant) → n ≡ 0 → h ≡ headOf a
+    → known (h .variant) ≡ true
+known-head a b n h e z p = rw p (known-first (a .variant) (b .variant) n e z)

@@ -2,17 +2,14 @@
 -- Assumes nothing.
 use mathlib.Core.Path.{_≡_, refl, sym, _∙_, ap, ap₂}
 use mathlib.Core.List.{List}
-use mathlib.Core.Logic.{inl, inr, ⊎-elim}
-use mathlib.Core.Bool.{Bool, true, false, not}
+use mathlib.Core.Bool.{true}
 use Prim.Native.Nat.{ℕ, zero, suc, _+_, _*_, _/_, _%_, _≤_, _<_}
 use native.Mathlib.Omega.{arith}
 use lib.ListN.{getD}
 use Rattle.params.specs.Variants.{known}
-use Rattle.params.proofs.Tests.{passed}
 use Rattle.params.proofs.Variants.{by-variant}
-use Rattle.body.specs.Body.{bytesOf}
-use Rattle.compare.specs.Distance.{codeCost, bodyCost}
-use Rattle.compare.specs.Words.{byteCost, packed, laneCosts, laneSum, eightCosts, fourCosts, Size}
+use Rattle.compare.specs.Distance.{bodyCost}
+use Rattle.compare.specs.Words.{byteCost, packed, laneCosts, laneSum, eightCosts, fourCosts}
 use Rattle.compare.proofs.Costs.{byte-most, byte-more}
 
 -- ---- words added byte by byte
@@ -42,31 +39,62 @@ add-sum (suc n) s t w u p q h =
     let r = add-sum n (s / 256) (t / 256) w u (p .1) (q .1) h in
     rw (e, f) (omega (arith, r))
 
--- the costs in a word are at most 24 each
-lanes-low : (n x y : ℕ) → Low n 24 (laneCosts n x y)
-unfolding laneCosts
-lanes-low zero x y = refl
-lanes-low (suc n) x y =
-    let b = byte-most x y in
-    let L = laneCosts n (x / 256) (y / 256) in
-    let e : (L * 256 + byteCost x y) / 256 ≡ L = omega arith in
-    (omega arith, rw e (lanes-low n (x / 256) (y / 256)))
+-- n and k, counted down from n
+abbrev more : ℕ → ℕ → ℕ
+more zero k = k
+more (suc n) k = suc (more n k)
 
 -- the costs of n bytes of two words
 unfoldable wordCost : ℕ → ℕ → ℕ → ℕ
 wordCost zero x y = 0
 wordCost (suc n) x y = byteCost x y + wordCost n (x / 256) (y / 256)
 
--- are the sum of the word's bytes
-lanes-sum : (n x y : ℕ) → laneSum n (laneCosts n x y) ≡ wordCost n x y
+none-low : (k w : ℕ) → Low k w 0
+none-low zero w = refl
+none-low (suc k) w = (omega arith, none-low k w)
+
+none-sum : (k : ℕ) → laneSum k 0 ≡ 0
+unfolding laneSum
+none-sum zero = refl
+none-sum (suc k) = omega (arith, none-sum k)
+
+-- n costs in a word with room for k more are at most 24 each
+lanes-low : (n k x y : ℕ) → Low (more n k) 24 (laneCosts n x y)
+unfolding laneCosts
+lanes-low zero k x y = none-low k 24
+lanes-low (suc n) k x y =
+    let b = byte-most x y in
+    let L = laneCosts n (x / 256) (y / 256) in
+    let e : (L * 256 + byteCost x y) / 256 ≡ L = omega arith in
+    (omega arith, rw e (lanes-low n k (x / 256) (y / 256)))
+
+-- and their sum is that of the word's bytes
+lanes-sum : (n k x y : ℕ) → laneSum (more n k) (laneCosts n x y) ≡ wordCost n x y
 unfolding laneCosts laneSum wordCost
-lanes-sum zero x y = refl
-lanes-sum (suc n) x y =
+lanes-sum zero k x y = none-sum k
+lanes-sum (suc n) k x y =
     let b = byte-most x y in
     let L = laneCosts n (x / 256) (y / 256) in
     let e : (L * 256 + byteCost x y) / 256 ≡ L = omega arith in
     let f : (L * 256 + byteCost x y) % 256 ≡ byteCost x y = omega arith in
-    ap₂ (λ (p q : ℕ). p + laneSum n q) f e ∙ ap (λ (p : ℕ). byteCost x y + p) (lanes-sum n (x / 256) (y / 256))
+    ap₂ (λ (p q : ℕ). p + laneSum (more n k) q) f e ∙ ap (λ (p : ℕ). byteCost x y + p) (lanes-sum n k (x / 256) (y / 256))
+
+-- the lower half of eight costs are the costs of the lower four bytes
+lower-four : (x y : ℕ) → laneCosts 8 x y % 4294967296 ≡ laneCosts 4 x y
+unfolding laneCosts
+lower-four x y =
+    let x₁ = x / 256 in
+    let x₂ = x₁ / 256 in
+    let x₃ = x₂ / 256 in
+    let y₁ = y / 256 in
+    let y₂ = y₁ / 256 in
+    let y₃ = y₂ / 256 in
+    cut (laneCosts 4 (x₃ / 256) (y₃ / 256)) (byteCost x₃ y₃) (byteCost x₂ y₂) (byteCost x₁ y₁) (byteCost x y) (byte-most x₃ y₃)
+    (byte-most x₂ y₂) (byte-most x₁ y₁) (byte-most x y)
+  where
+    cut : (a p q r s : ℕ) → p ≤ 24 → q ≤ 24 → r ≤ 24 → s ≤ 24
+        → ((((a * 256 + p) * 256 + q) * 256 + r) * 256 + s) % 4294967296 ≡ (((0 * 256 + p) * 256 + q) * 256 + r) * 256 + s
+    cut a p q r s h i j k = omega arith
 
 -- ---- bytes of lists
 
@@ -99,28 +127,19 @@ byte-below a b p q =
     let y = codes-of b q in
     rw (x .0, x .1, x .2, x .3, y .0, y .1, y .2, y .3)
 
--- n and k, counted down from n
-abbrev more : ℕ → ℕ → ℕ
-more zero k = k
-more (suc n) k = suc (more n k)
-
-none-cost : (k : ℕ) → wordCost k 0 0 ≡ 0
-unfolding wordCost byteCost codeCost
-none-cost zero = refl
-none-cost (suc k) = omega (arith, none-cost k)
-
--- n bytes in a word with room for k more
-packed-cost : (n k : ℕ) (xs ys : List ℕ) (i : ℕ) → wordCost (more n k) (packed n xs i) (packed n ys i) ≡ costFrom n xs ys i
+-- the first n of the bytes in a word
+packed-cost : (n k : ℕ) (xs ys : List ℕ) (i : ℕ)
+    → wordCost n (packed (more n k) xs i) (packed (more n k) ys i) ≡ costFrom n xs ys i
 unfolding wordCost packed costFrom
-packed-cost zero k xs ys i = none-cost k
+packed-cost zero k xs ys i = refl
 packed-cost (suc n) k xs ys i =
     let a = getD xs i 0 in
     let b = getD ys i 0 in
-    let p = packed n xs (suc i) in
-    let q = packed n ys (suc i) in
+    let p = packed (more n k) xs (suc i) in
+    let q = packed (more n k) ys (suc i) in
     let e : (a % 256 + 256 * p) / 256 ≡ p = omega arith in
     let f : (b % 256 + 256 * q) / 256 ≡ q = omega arith in
-    ap₂ (λ (u v : ℕ). u + v) (byte-below a b p q) (ap₂ (wordCost (more n k)) e f ∙ packed-cost n k xs ys (suc i))
+    ap₂ (λ (u v : ℕ). u + v) (byte-below a b p q) (ap₂ (wordCost n) e f ∙ packed-cost n k xs ys (suc i))
 
 -- n bytes, then k
 from-more : (n k : ℕ) (xs ys : List ℕ) (i j : ℕ) → j ≡ i + n
@@ -175,10 +194,10 @@ eight-is xs ys i a b r p q e = rw (e, p, q)
 -- ---- the bodies
 
 eight-low : (xs ys : List ℕ) (i : ℕ) → Low 8 24 (eightCosts xs ys i)
-eight-low xs ys i = lanes-low 8 (packed 8 xs i) (packed 8 ys i)
+eight-low xs ys i = lanes-low 8 0 (packed 8 xs i) (packed 8 ys i)
 
 eight-sum : (xs ys : List ℕ) (i : ℕ) → laneSum 8 (eightCosts xs ys i) ≡ costFrom 8 xs ys i
-eight-sum xs ys i = lanes-sum 8 (packed 8 xs i) (packed 8 ys i) ∙ packed-cost 8 0 xs ys i
+eight-sum xs ys i = lanes-sum 8 0 (packed 8 xs i) (packed 8 ys i) ∙ packed-cost 8 0 xs ys i
 
 module _ (xs ys : List ℕ) (i : ℕ) where
   abbrev a₀ : ℕ
@@ -225,36 +244,48 @@ module _ (xs ys : List ℕ) (i : ℕ) where
         eight-sum xs ys (i + 24),
       )
 
+-- 12, 32 and 64 bytes
+cost-12 : (xs ys : List ℕ) → laneSum 8 (eightCosts xs ys 0 + eightCosts xs ys 8 % 4294967296) ≡ bodyCost 48 xs ys
+cost-12 xs ys =
+    let x = packed 8 xs 8 in
+    let y = packed 8 ys 8 in
+    ap (λ (w : ℕ). laneSum 8 (eightCosts xs ys 0 + w)) (lower-four x y)
+    ∙ add-sum 8 (eightCosts xs ys 0) (laneCosts 4 x y) 24 24 (eight-low xs ys 0) (lanes-low 4 4 x y) (omega arith)
+    ∙ ap₂ (λ (u v : ℕ). u + v) (eight-sum xs ys 0) (lanes-sum 4 4 x y ∙ packed-cost 4 4 xs ys 8)
+    ∙ sym (from-more 8 4 xs ys 0 8 refl)
+    ∙ from-codes 12 xs ys
+
+cost-32 : (xs ys : List ℕ) → laneSum 8 (fourCosts xs ys 0) ≡ bodyCost 128 xs ys
+cost-32 xs ys = four-sum xs ys 0 ∙ from-codes 32 xs ys
+
+cost-64 : (xs ys : List ℕ) → laneSum 8 (fourCosts xs ys 0 + fourCosts xs ys 32) ≡ bodyCost 256 xs ys
+cost-64 xs ys =
+    add-sum 8 (fourCosts xs ys 0) (fourCosts xs ys 32) 96 96 (low₄ xs ys 0) (low₄ xs ys 32) (omega arith)
+    ∙ ap₂ (λ (u v : ℕ). u + v) (four-sum xs ys 0) (four-sum xs ys 32)
+    ∙ sym (from-more 32 32 xs ys 0 32 refl)
+    ∙ from-codes 64 xs ys
+
+-- a known variant up to 48 is 48, one after that up to 128 is 128, and one after that 256
+pub short-is : (n : ℕ) → known n ≡ true → n ≤ 48 → n ≡ 48
+short-is = by-variant (λ n. n ≤ 48 → n ≡ 48) (λ h. refl) (λ h. absurd (omega arith)) (λ h. absurd (omega arith))
+
+pub normal-is : (n : ℕ) → known n ≡ true → 48 < n → n ≤ 128 → n ≡ 128
+normal-is = by-variant (λ n. 48 < n → n ≤ 128 → n ≡ 128) (λ h k. absurd (omega arith)) (λ h k. refl) (λ h k. absurd (omega arith))
+
+pub long-is : (n : ℕ) → known n ≡ true → 128 < n → n ≡ 256
+long-is = by-variant (λ n. 128 < n → n ≡ 256) (λ h. absurd (omega arith)) (λ h. absurd (omega arith)) (λ h. refl)
+
 -- the short body: 8 bytes and 4
-pub body-12 : (xs ys : List ℕ) (m a h k w r : ℕ) → Size m → m ≤ 12 → a ≡ eightCosts xs ys 0
-    → h ≡ packed 4 xs 8 → k ≡ packed 4 ys 8 → w ≡ laneCosts 8 h k → r ≡ laneSum 8 (a + w) → r ≡ bodyCost (4 * m) xs ys
-body-12 xs ys m a h k w r z n p ph pk pw q =
-    let e : m ≡ 12 = ⊎-elim (λ u. u) (λ v. ⊎-elim (λ u. omega arith) (λ u. omega arith) v) (z .is) in
-    let h₀ = packed 4 xs 8 in
-    let k₀ = packed 4 ys 8 in
-    let s = add-sum 8 (eightCosts xs ys 0) (laneCosts 8 h₀ k₀) 24 24 (eight-low xs ys 0) (lanes-low 8 h₀ k₀) (omega arith) in
-    let f = from-more 8 4 xs ys 0 8 refl in
-    rw (e, q, p, pw, ph, pk)
-    (s ∙ ap₂ (λ (u v : ℕ). u + v) (eight-sum xs ys 0) (lanes-sum 8 h₀ k₀ ∙ packed-cost 4 4 xs ys 8) ∙ sym f ∙ from-codes 12 xs ys)
+pub body-48 : (xs ys : List ℕ) (n a b r : ℕ) → known n ≡ true → n ≤ 48 → a ≡ eightCosts xs ys 0 → b ≡ eightCosts xs ys 8
+    → r ≡ laneSum 8 (a + b % 4294967296) → r ≡ bodyCost n xs ys
+body-48 xs ys n a b r z l p o q = rw (short-is n z l, q, p, o) (cost-12 xs ys)
 
 -- the normal body: 32 bytes
-pub body-32 : (xs ys : List ℕ) (m s r : ℕ) → Size m → 12 < m → m ≤ 32 → s ≡ fourCosts xs ys 0 → r ≡ laneSum 8 s
-    → r ≡ bodyCost (4 * m) xs ys
-body-32 xs ys m s r z n₁ n₂ p q =
-    let e : m ≡ 32 = ⊎-elim (λ u. omega arith) (λ v. ⊎-elim (λ u. u) (λ u. omega arith) v) (z .is) in
-    rw (e, q, p) (four-sum xs ys 0 ∙ from-codes 32 xs ys)
+pub body-128 : (xs ys : List ℕ) (n s r : ℕ) → known n ≡ true → 48 < n → n ≤ 128 → s ≡ fourCosts xs ys 0 → r ≡ laneSum 8 s
+    → r ≡ bodyCost n xs ys
+body-128 xs ys n s r z l m p q = rw (normal-is n z l m, q, p) (cost-32 xs ys)
 
 -- the long body: twice 32
-pub body-64 : (xs ys : List ℕ) (m s t r : ℕ) → Size m → 32 < m → s ≡ fourCosts xs ys 0 → t ≡ fourCosts xs ys 32
-    → r ≡ laneSum 8 (s + t) → r ≡ bodyCost (4 * m) xs ys
-body-64 xs ys m s t r z n p p₂ q =
-    let e : m ≡ 64 = ⊎-elim (λ u. omega arith) (λ v. ⊎-elim (λ u. omega arith) (λ u. u) v) (z .is) in
-    let w = add-sum 8 (fourCosts xs ys 0) (fourCosts xs ys 32) 96 96 (low₄ xs ys 0) (low₄ xs ys 32) (omega arith) in
-    let f = from-more 32 32 xs ys 0 32 refl in
-    rw (e, q, p, p₂) (w ∙ ap₂ (λ (u v : ℕ). u + v) (four-sum xs ys 0) (four-sum xs ys 32) ∙ sym f ∙ from-codes 64 xs ys)
-
--- a known variant has one of the three sizes
-pub size-of : (v m : ℕ) (k : Bool) → k ≡ known v → not k ≡ false → m ≡ bytesOf v → Size m
-size-of v m k e n p =
-    rw p (by-variant (λ v. Size (bytesOf v)) (record { is = inl refl }) (record { is = inr (inl refl) }) (record { is = inr (inr refl) })
-    v (passed (known v) k e n))
+pub body-256 : (xs ys : List ℕ) (n s t r : ℕ) → known n ≡ true → 128 < n → s ≡ fourCosts xs ys 0 → t ≡ fourCosts xs ys 32
+    → r ≡ laneSum 8 (s + t) → r ≡ bodyCost n xs ys
+body-256 xs ys n s t r z l p o q = rw (long-is n z l, q, p, o) (cost-64 xs ys)

@@ -1,7 +1,7 @@
 -- What holds of the distance: the proofs of the statements of specs/Theorems.antt.
 -- Assumes nothing.
 use mathlib.Core.Path.{_≡_, refl, sym, _∙_, ap, ap₂}
-use mathlib.Core.Bool.{Bool, true, false, cond, not, _&&_, and-comm, or-comm, and-false}
+use mathlib.Core.Bool.{Bool, true, false, cond, _&&_, and-comm, or-comm, and-false}
 use mathlib.Core.List.{List}
 use Prim.Native.Nat.{ℕ, zero, suc, _+_, _-_, _*_, _/_, _%_, _≤_, _<_, min}
 use native.Mathlib.Omega.{arith}
@@ -10,20 +10,20 @@ use lib.ListN.{getD, replicate}
 use borrow.Author.Tests.{leb-false, eq-eqb, ne-eqb, eqb-true, eqb-false}
 use Rattle.params.specs.Variants.{known}
 use Rattle.params.specs.Words.{apart}
-use Rattle.params.specs.Answers.{done, unlikeDigests}
+use Rattle.params.specs.Answers.{done}
 use Rattle.params.proofs.Every.{below}
-use Rattle.params.proofs.Variants.{known-most}
+use Rattle.params.proofs.Variants.{by-variant, known-most}
 use Rattle.body.specs.Body.{bytesOf}
 use Rattle.hash.specs.declared.Digest.{Digest}
 use Rattle.hash.specs.Digest.{sameOf}
 use Rattle.hash.proofs.Sameness.{Alike, Agreed, agreed, agreed-same}
 use Rattle.compare.specs.declared.DistanceAnswer.{DistanceAnswer}
 use Rattle.compare.specs.Distance.{outermost, codeCost, codeAt, bodyCost, around, costs, lengthCost, ratioCost, checksumCost}
-use Rattle.compare.specs.Distance.{costOf, refusedDistance, distanceOf}
+use Rattle.compare.specs.Distance.{costOf, refusedDistance, comparability, distanceOf}
 use Rattle.compare.specs.Words.{byteCost}
 use Rattle.compare.specs.Theorems.{EitherOrder, Bytes, ZeroForTheSame, SameForZero, greatest, AtMost, lowest, highest, Reached, Totals}
 use Rattle.compare.proofs.Costs.{byte-more, body-most}
-use Rattle.compare.proofs.Answers.{four-each}
+use Rattle.compare.proofs.Answers.{comparable-says, comparable-one}
 
 -- ---- either order
 
@@ -76,21 +76,26 @@ cost-turn a b v =
     let t = checksum-turn (a .checksum) (b .checksum) in
     cc
 
--- the answer where both variants are known
-abbrev compared : Bool → ℕ → DistanceAnswer
-compared t n = cond (not t) (refusedDistance unlikeDigests) (record { number = done; distance = n })
+comparable-turn : (v w : ℕ) → comparability v w ≡ comparability w v
+unfolding comparability
+comparable-turn v w = rw (and-comm (known v) (known w), eqb-turn v w)
 
-compared-turn : (a b : Digest) → compared (eqb (a .variant) (b .variant)) (costOf a b) ≡ compared (eqb (b .variant) (a .variant)) (costOf b a)
-compared-turn a b =
-    go (eqb (a .variant) (b .variant)) refl ∙ ap (λ (t : Bool). compared t (costOf b a)) (eqb-turn (a .variant) (b .variant))
-  where
-    go : (t : Bool) → eqb (a .variant) (b .variant) ≡ t → compared t (costOf a b) ≡ compared t (costOf b a)
-    go true e = ap (λ (n : ℕ). record { number = done; distance = n }) (cost-turn a b (eqb-true (a .variant) (b .variant) e))
-    go false e = refl
+-- the answer for a number and a cost
+abbrev answered : ℕ → ℕ → DistanceAnswer
+answered n d = cond (eqb n done) (record { number = done; distance = d }) (refusedDistance n)
 
 pub either-order : EitherOrder
 unfolding distanceOf
-either-order a b = rw (and-comm (known (a .variant)) (known (b .variant)), compared-turn a b)
+either-order a b =
+    go (eqb n 0) refl
+    ∙ ap (λ (m : ℕ). answered m (costOf b a)) (comparable-turn (a .variant) (b .variant))
+  where
+    n : ℕ
+    n = comparability (a .variant) (b .variant)
+
+    go : (t : Bool) → eqb n 0 ≡ t → answered n (costOf a b) ≡ answered n (costOf b a)
+    go true e = ap (answered n) (cost-turn a b (comparable-says (a .variant) (b .variant) (eqb-true n 0 e) .one))
+    go false e = rw e
 
 -- ---- 0 for the same
 
@@ -132,6 +137,10 @@ checksum-self : (a : ℕ) → checksumCost a a ≡ 0
 unfolding checksumCost
 checksum-self a = rw (eq-eqb a a refl)
 
+-- a known variant's bytes have four codes each
+four-each : (v : ℕ) → known v ≡ true → 4 * bytesOf v ≡ v
+four-each = by-variant (λ v. 4 * bytesOf v ≡ v) refl refl refl
+
 cost-alike : (a b : Digest) → known (a .variant) ≡ true → Alike a b → costOf a b ≡ 0
 unfolding costOf
 cost-alike a b k s =
@@ -151,7 +160,7 @@ pub zero-for-the-same : ZeroForTheSame
 unfolding distanceOf
 zero-for-the-same a b e =
     let p = agreed a b e in
-    rw (p .first, p .second, eq-eqb (a .variant) (b .variant) (p .alike .variant), cost-alike a b (p .first) (p .alike))
+    rw (comparable-one (a .variant) (b .variant) (p .first) (p .alike .variant), cost-alike a b (p .first) (p .alike))
 
 -- ---- the same for 0
 
@@ -243,25 +252,19 @@ cost-zero a b f g k v e =
       body = body-zero (bytesOf (a .variant)) (a .body) (b .body) (f .body) (g .body) d;
     }
 
-unlike : (m n : ℕ) → m ≡ n → m < n → ⊥
-unlike m n e l = omega arith
-
 pub same-for-zero : SameForZero
 unfolding distanceOf
-same-for-zero a b f g e = go (known (a .variant)) refl (known (b .variant)) refl (eqb (a .variant) (b .variant)) refl
+same-for-zero a b f g e = go (eqb n 0) refl
   where
-    numbered : DistanceAnswer → ℕ
-    numbered d = d .number
+    n : ℕ
+    n = comparability (a .variant) (b .variant)
 
-    go : (p : Bool) → known (a .variant) ≡ p → (q : Bool) → known (b .variant) ≡ q → (r : Bool) → eqb (a .variant) (b .variant) ≡ r
-        → sameOf a b ≡ record { number = done; same = true }
-    go false k q l r s = absurd (unlike 0 6 (sym (ap numbered (rw k at e))) (omega arith))
-    go true k false l r s = absurd (unlike 0 6 (sym (ap numbered (rw (k, l) at e))) (omega arith))
-    go true k true l false s = absurd (unlike 0 12 (sym (ap numbered (rw (k, l, s) at e))) (omega arith))
-    go true k true l true s =
-        let n : costOf a b ≡ 0 = ap (λ (d : DistanceAnswer). d .distance) (rw (k, l, s) at e) in
-        agreed-same a b
-        (record { first = k; second = l; alike = cost-zero a b f g k (eqb-true (a .variant) (b .variant) s) n })
+    go : (t : Bool) → eqb n 0 ≡ t → sameOf a b ≡ record { number = done; same = true }
+    go false s = absurd (eqb-false n 0 s (ap (λ (d : DistanceAnswer). d .number) (rw s at e)))
+    go true s =
+        let p = comparable-says (a .variant) (b .variant) (eqb-true n 0 s) in
+        let c : costOf a b ≡ 0 = ap (λ (d : DistanceAnswer). d .distance) (rw s at e) in
+        agreed-same a b (record { first = p .first; second = p .second; alike = cost-zero a b f g (p .first) (p .one) c })
 
 -- ---- the greatest
 
@@ -306,12 +309,12 @@ cost-most a b =
 
 pub at-most : AtMost
 unfolding distanceOf
-at-most a b = go (known (a .variant) && known (b .variant)) (eqb (a .variant) (b .variant))
+at-most a b = go (eqb (comparability (a .variant) (b .variant)) 0)
   where
-    go : (p r : Bool) → cond (not p) (refusedDistance 6) (compared r (costOf a b)) .distance ≤ greatest (a .variant)
-    go false r = omega arith
-    go true true = cost-most a b
-    go true false = omega arith
+    go : (t : Bool) → cond t (record { number = done; distance = costOf a b }) (refusedDistance (comparability (a .variant) (b .variant)))
+        .distance ≤ greatest (a .variant)
+    go true = cost-most a b
+    go false = omega arith
 
 -- every pair of codes of a body of zeros and one of ones is 0 against 3
 abbrev at-zeros : ℕ → ℕ
@@ -328,7 +331,7 @@ six-all (suc n) h = omega (arith, six-all n (omega arith), six-each n (omega ari
 
 pub reached : Reached
 unfolding distanceOf costOf lengthCost ratioCost checksumCost
-reached v k = rw (k, eq-eqb v v refl, six-all v (known-most v k)) (sum (6 * v))
+reached v k = rw (comparable-one v v k refl, six-all v (known-most v k)) (sum (6 * v))
   where
     answer : ℕ → DistanceAnswer
     answer d = record { number = done; distance = d }

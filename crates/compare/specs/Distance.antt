@@ -10,6 +10,7 @@ use Rattle.params.specs.Answers.{done, unknownVariant, unlikeDigests}
 use Rattle.params.specs.Words.{apart}
 use Rattle.hash.specs.declared.Digest.{Digest}
 use Rattle.compare.specs.declared.DistanceAnswer.{DistanceAnswer}
+use Rattle.compare.specs.declared.Head.{Head}
 
 -- ---- the body
 
@@ -67,9 +68,21 @@ costOf a b =
 abbrev pub refusedDistance : ℕ → DistanceAnswer
 refusedDistance n = record { number = n; distance = 0 }
 
--- 6 where one of the two is of no known variant, then 12 where the variants differ, then the sum
+-- whether digests of two variants can be compared: 6 where one variant is unknown, then 12 where they differ, else 0
+unfoldable pub comparability : ℕ → ℕ → ℕ
+comparability v w = cond (not (known v && known w)) unknownVariant (cond (not (eqb v w)) unlikeDigests done)
+
+-- the sum, where they can be compared
 unfoldable pub distanceOf : Digest → Digest → DistanceAnswer
 distanceOf a b =
-    cond (not (known (a .variant) && known (b .variant))) (refusedDistance unknownVariant)
-    (cond (not (eqb (a .variant) (b .variant))) (refusedDistance unlikeDigests)
-    (record { number = done; distance = costOf a b }))
+    cond (eqb (comparability (a .variant) (b .variant)) done) (record { number = done; distance = costOf a b })
+    (refusedDistance (comparability (a .variant) (b .variant)))
+
+-- ---- a digest is its head and its body
+
+abbrev pub headOf : Digest → Head
+headOf d = record { variant = d .variant; checksum = d .checksum; «length_code» = d .«length_code»; ratios = d .ratios }
+
+abbrev pub joined : Head → List ℕ → Digest
+joined h body =
+    record { body = body; variant = h .variant; checksum = h .checksum; «length_code» = h .«length_code»; ratios = h .ratios }

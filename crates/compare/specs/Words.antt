@@ -2,8 +2,6 @@
 -- their place. Only private functions cite this.
 -- Assumes nothing.
 use mathlib.Core.List.{List}
-use mathlib.Core.Logic.{_⊎_}
-use mathlib.Core.Path.{_≡_}
 use Prim.Native.Nat.{ℕ, zero, suc, _+_, _*_, _/_, _%_}
 use lib.ListN.{getD}
 use Rattle.compare.specs.Distance.{codeCost}
@@ -38,7 +36,3 @@ eightCosts xs ys i = laneCosts 8 (packed 8 xs i) (packed 8 ys i)
 -- those of 32, added byte by byte
 abbrev pub fourCosts : List ℕ → List ℕ → ℕ → ℕ
 fourCosts xs ys i = eightCosts xs ys i + eightCosts xs ys (i + 8) + eightCosts xs ys (i + 16) + eightCosts xs ys (i + 24)
-
--- the bytes of a body that a variant uses
-pub record Size (m : ℕ) : Type 0 where
-  pub is : (m ≡ 12) ⊎ ((m ≡ 32) ⊎ (m ≡ 64))

@@ -4,10 +4,14 @@
 // eight bytes give a word that has the cost of each pair of bytes in their place (`word_cost`), such words are added byte by byte
 // without a carry, and the bytes of the last one are added up (`total`).
 ghost use mathlib.Core.Path.{_≡_};
+ghost use mathlib.Core.Bool.{true, cond, not, _&&_};
 ghost use Prim.Native.Nat.{_+_, _*_, _≤_, _<_};
 ghost use Rattle.params.specs.Words.{apart};
+ghost use Rattle.params.specs.Variants.{known};
+ghost use Rattle.params.specs.Answers.{unknownVariant, unlikeDigests};
 ghost use Rattle.compare.specs.Distance.{bodyCost, around, lengthCost, ratioCost, checksumCost, refusedDistance, distanceOf};
-ghost use Rattle.compare.specs.Words.{packed, laneCosts, laneSum, eightCosts, fourCosts, Size};
+ghost use Rattle.compare.specs.Distance.{comparability, costOf, headOf, joined};
+ghost use Rattle.compare.specs.Words.{packed, laneCosts, laneSum, eightCosts, fourCosts};
 use hash::Digest;
 
 // The number of the answer, and the distance; 0 beside a refusal.
@@ -84,16 +88,16 @@ fn four_times_eight(x: &[u8; 64], y: &[u8; 64], at: usize) -> u64
     eight(x, y, at) + eight(x, y, at + 8) + eight(x, y, at + 16) + eight(x, y, at + 24)
 }
 
-// The cost of the first m bytes of two bodies: 12, 32 or 64.
-fn body_cost(x: &[u8; 64], y: &[u8; 64], m: usize) -> u32
-    requires { ⌜ Size m ⌝ }
-    ensures { λ r. ⌜ (r ≡ bodyCost (4 * m) (now (x .entry)) (now (y .entry))) × (r ≤ 2040) ⌝ }
+// The cost of the n codes of two bodies of a variant. A short body is eight bytes and the first four of the next eight.
+fn body_cost(x: &[u8; 64], y: &[u8; 64], n: u32) -> u32
+    requires { ⌜ known n ≡ true ⌝ }
+    ensures { λ r. ⌜ (r ≡ bodyCost n (now (x .entry)) (now (y .entry))) × (r ≤ 2040) ⌝ }
 {
-    if m <= 12 {
-        return total(eight(x, y, 0) + word_cost(half_word(x, 8), half_word(y, 8)));
+    if n <= params::SHORT {
+        return total(eight(x, y, 0) + eight(x, y, 8) % 4294967296);
     }
     let first = four_times_eight(x, y, 0);
-    if m <= 32 {
+    if n <= params::NORMAL {
         return total(first);
     }
     total(first + four_times_eight(x, y, 32))
@@ -156,27 +160,93 @@ fn refused(number: u32) -> DistanceAnswer
     }
 }
 
-// The distance of two digests; 6 where one is of no known variant, then 12 where they are of two.
-pub fn distance(a: Digest, b: Digest) -> DistanceAnswer
-    ensures { λ r. ⌜ r ≡ distanceOf a b ⌝ }
+// 6 unless both variants are known, then 12 where they differ.
+fn unlike(v: u32, w: u32) -> u32
+    ensures { λ r. ⌜ r ≡ cond (not (known v && known w)) unknownVariant unlikeDigests ⌝ }
 {
-    if !params::is_known(a.variant) {
-        return refused(params::UNKNOWN_VARIANT);
+    if !params::is_known(v) {
+        return params::UNKNOWN_VARIANT;
     }
-    if !params::is_known(b.variant) {
-        return refused(params::UNKNOWN_VARIANT);
+    if !params::is_known(w) {
+        return params::UNKNOWN_VARIANT;
     }
-    if a.variant != b.variant {
-        return refused(params::UNLIKE_DIGESTS);
+    params::UNLIKE_DIGESTS
+}
+
+// Whether digests of two variants can be compared: 0; 6 where one variant is unknown, then 12 where they differ.
+pub fn comparable(v: u32, w: u32) -> u32
+    ensures { λ r. ⌜ r ≡ comparability v w ⌝ }
+{
+    if v != w {
+        return unlike(v, w);
     }
-    let m = body::bytes_of(a.variant as usize);
-    let body = body_cost(&a.body, &b.body, m);
+    if !params::is_known(v) {
+        return params::UNKNOWN_VARIANT;
+    }
+    params::DONE
+}
+
+// A digest without its body.
+#[repr(C)]
+pub struct Head {
+    pub variant: u32,
+    pub checksum: u8,
+    pub length_code: u8,
+    pub ratios: u8,
+}
+
+// The cost of two digests of one known variant. The bodies come last, so that one number is left to keep while they are compared.
+fn cost(a: Head, x: &[u8; 64], b: Head, y: &[u8; 64]) -> u32
+    requires { ⌜ known (a .variant) ≡ true ⌝ }
+    ensures { λ r. ⌜ r ≡ costOf (joined a (now (x .entry))) (joined b (now (y .entry))) ⌝ }
+{
     let length = length_cost(a.length_code, b.length_code);
     let q1 = ratio_cost(a.ratios % 16, b.ratios % 16);
     let q2 = ratio_cost(a.ratios / 16, b.ratios / 16);
     let checksum = checksum_cost(a.checksum, b.checksum);
+    let rest = length + q1 + q2 + checksum;
+    let body = body_cost(x, y, a.variant);
+    let sum = body + rest;
+    sum
+}
+
+// The distance of two digests whose bodies are lent; 6, then 12.
+pub fn distance_lent(a: Head, x: &[u8; 64], b: Head, y: &[u8; 64]) -> DistanceAnswer
+    ensures { λ r. ⌜ r ≡ distanceOf (joined a (now (x .entry))) (joined b (now (y .entry))) ⌝ }
+{
+    let number = comparable(a.variant, b.variant);
+    if number != params::DONE {
+        return refused(number);
+    }
     DistanceAnswer {
         number: params::DONE,
-        distance: body + length + q1 + q2 + checksum,
+        distance: cost(a, x, b, y),
+    }
+}
+
+// A digest's other fields.
+fn head_of(d: Digest) -> Head
+    ensures { λ r. ⌜ r ≡ headOf d ⌝ }
+{
+    Head {
+        variant: d.variant,
+        checksum: d.checksum,
+        length_code: d.length_code,
+        ratios: d.ratios,
+    }
+}
+
+// The distance of two digests; 6, then 12. It does not go by way of `distance_lent`: the cost of bodies that stand on the caller's side
+// is then one call with a number for its answer, and that answer need not go through memory.
+pub fn distance(a: Digest, b: Digest) -> DistanceAnswer
+    ensures { λ r. ⌜ r ≡ distanceOf a b ⌝ }
+{
+    let number = comparable(a.variant, b.variant);
+    if number != params::DONE {
+        return refused(number);
+    }
+    DistanceAnswer {
+        number: params::DONE,
+        distance: cost(head_of(a), &a.body, head_of(b), &b.body),
     }
 }

@@ -2,12 +2,12 @@
 -- refusals). A refusal leaves it as it was.
 -- Assumes nothing.
 use Prim.Native.Nat.{ℕ}
-use mathlib.Core.Bool.{cond, not, _&&_}
+use mathlib.Core.Bool.{cond, not}
 use mathlib.Core.List.{List, [], _∷_}
 use lib.Dec.{ltb, eqb}
 use lib.ListN.{length}
 use Rattle.params.specs.Variants.{known}
-use Rattle.params.specs.Answers.{done, unknownVariant, shortDestination, unknownOption, unlikeDigests}
+use Rattle.params.specs.Answers.{done, unknownVariant, shortDestination, unknownOption}
 use Rattle.length.specs.Code.{coded}
 use Rattle.qratios.specs.Single.{bits, whole}
 use Rattle.qratios.specs.Ratios.{quotient, ordered, ratiosOf}
@@ -15,7 +15,7 @@ use Rattle.hash.specs.declared.Digest.{Digest}
 use Rattle.text.specs.Text.{textSize, Wrote, writeOf}
 use Rattle.parse.specs.Reading.{readOf}
 use Rattle.compare.specs.declared.DistanceAnswer.{DistanceAnswer}
-use Rattle.compare.specs.Distance.{refusedDistance, distanceOf}
+use Rattle.compare.specs.Distance.{refusedDistance, comparability, distanceOf}
 use Rattle.finalize.specs.declared.Finalized.{Finalized}
 use Rattle.finalize.specs.Final.{digestOf}
 
@@ -67,8 +67,7 @@ classed n lent = cond (eqb (coded n .number) done) (record { number = done; dest
 -- the distance of the digests of two texts: 6, then 12, then the reader's 8 and 9 of the first text, then those of the second
 unfoldable pub textsDistance : ℕ → List ℕ → ℕ → List ℕ → DistanceAnswer
 textsDistance v s w t =
-    cond (not (known v && known w)) (refusedDistance unknownVariant)
-    (cond (not (eqb v w)) (refusedDistance unlikeDigests)
+    cond (not (eqb (comparability v w) done)) (refusedDistance (comparability v w))
     (cond (not (eqb (readOf v s .number) done)) (refusedDistance (readOf v s .number))
     (cond (not (eqb (readOf w t .number) done)) (refusedDistance (readOf w t .number))
-    (distanceOf (readOf v s .digest) (readOf w t .digest)))))
+    (distanceOf (readOf v s .digest) (readOf w t .digest))))

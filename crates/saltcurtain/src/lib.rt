@@ -7,12 +7,12 @@ ghost use Prim.Native.Nat.{_<_, min};
 ghost use Rattle.generate.specs.Answer.{updated};
 ghost use Rattle.text.specs.Text.{Written};
 ghost use Rattle.parse.specs.Reading.{readOf};
-ghost use Rattle.compare.specs.Distance.{refusedDistance, distanceOf};
+ghost use Rattle.compare.specs.Distance.{refusedDistance, distanceOf, joined};
 ghost use Rattle.finalize.specs.Final.{finalized};
 ghost use Rattle.saltcurtain.specs.Entries.{judged, given, digested, rewritten, ratioed, classed, textsDistance};
 use compare::DistanceAnswer;
+use compare::Head;
 use generate::State;
-use hash::Digest;
 use parse::ReadAnswer;
 
 // 10, then 6, then 7 of a one-shot digest's arguments, or 0.
@@ -188,14 +188,9 @@ pub extern "C" fn saltcurtain_distance(
 ) -> DistanceAnswer
     ensures { λ r. ⌜ r ≡ textsDistance «variant_a» (now («text_a» .entry)) «variant_b» (now («text_b» .entry)) ⌝ }
 {
-    if !params::is_known(variant_a) {
-        return no_distance(params::UNKNOWN_VARIANT);
-    }
-    if !params::is_known(variant_b) {
-        return no_distance(params::UNKNOWN_VARIANT);
-    }
-    if variant_a != variant_b {
-        return no_distance(params::UNLIKE_DIGESTS);
+    let number = compare::comparable(variant_a, variant_b);
+    if number != params::DONE {
+        return no_distance(number);
     }
     let first = parse::read_text(variant_a, text_a);
     if first.number != params::DONE {
@@ -220,8 +215,13 @@ pub extern "C" fn saltcurtain_read(variant: u32, text: &[u8]) -> ReadAnswer
 
 // The distance of two digests that were read.
 #[no_mangle]
-pub extern "C" fn saltcurtain_distance_read(a: Digest, b: Digest) -> DistanceAnswer
-    ensures { λ r. ⌜ r ≡ distanceOf a b ⌝ }
+pub extern "C" fn saltcurtain_distance_read(
+    a: Head,
+    x: &[u8; 64],
+    b: Head,
+    y: &[u8; 64],
+) -> DistanceAnswer
+    ensures { λ r. ⌜ r ≡ distanceOf (joined a (now (x .entry))) (joined b (now (y .entry))) ⌝ }
 {
-    compare::distance(a, b)
+    compare::distance_lent(a, x, b, y)
 }
