@@ -146,14 +146,7 @@ pub fn length_code(n: u32, out: &mut [u32; 1]) -> u32 {
 pub fn distance(variant_a: u32, text_a: &[u8], variant_b: u32, text_b: &[u8]) -> Distance {
     // SAFETY: both slices are lent for the call, with their own lengths.
     unsafe {
-        entry::saltcurtain_distance(
-            variant_a,
-            text_a.as_ptr(),
-            text_a.len(),
-            variant_b,
-            text_b.as_ptr(),
-            text_b.len(),
-        )
+        entry::saltcurtain_distance(variant_a, text_a.as_ptr(), text_a.len(), variant_b, text_b.as_ptr(), text_b.len())
     }
 }
 

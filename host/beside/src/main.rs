@@ -16,6 +16,7 @@ beside huge                     inputs at and past the greatest length, and past
 beside again SECTION JOB        one job of a comparison, as a difference names it
 beside known                    the listed differences
 beside store FILE               write the stored list of the Rust's answers
+beside store-distances FILE     write the stored list of the Rust's distances
 beside input KIND SEED LENGTH   the bytes of an input, to standard output
 
 --seed N      all random numbers come from it (20250101)
@@ -74,6 +75,11 @@ fn act() -> Result<ExitCode, String> {
         }
         ["store", file] => {
             let write = || store::write(&mut BufWriter::new(File::create(file)?));
+            write().map_err(|e| format!("{file}: {e}"))?;
+            Ok(ExitCode::SUCCESS)
+        }
+        ["store-distances", file] => {
+            let write = || store::write_distances(&mut BufWriter::new(File::create(file)?));
             write().map_err(|e| format!("{file}: {e}"))?;
             Ok(ExitCode::SUCCESS)
         }

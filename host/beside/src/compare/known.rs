@@ -16,10 +16,12 @@ pub enum Known {
     OneFault,
     /// The default ratios are floating.
     DefaultRatios,
+    /// Digests of different variants.
+    UnlikeDigests,
 }
 
 /// All of them, each with what is seen.
-pub const LIST: [(Known, &str); 6] = [
+pub const LIST: [(Known, &str); 7] = [
     (
         Known::RoomFirst,
         "a destination that is too short: the port gives 7 first, the Rust finalizes first and gives its refusal",
@@ -34,5 +36,9 @@ pub const LIST: [(Known, &str); 6] = [
     (
         Known::DefaultRatios,
         "the Rust's comment says that ratios are whole-number by default: its code and the port take floating ones",
+    ),
+    (
+        Known::UnlikeDigests,
+        "digests of different variants: the port gives 12, the Rust's types have no such comparison",
     ),
 ];
