@@ -9,7 +9,7 @@ use lib.ListN.{getD}
 use Rattle.params.specs.Variants.{known}
 use Rattle.params.proofs.Variants.{by-variant}
 use Rattle.compare.specs.Distance.{bodyCost}
-use Rattle.compare.specs.Words.{byteCost, packed, laneCosts, laneSum, eightCosts, fourCosts}
+use Rattle.compare.specs.Lanes.{byteCost, packed, laneCosts, laneSum, eightCosts, fourCosts}
 use Rattle.compare.proofs.Costs.{byte-most, byte-more}
 
 -- ---- words added byte by byte

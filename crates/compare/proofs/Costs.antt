@@ -5,12 +5,11 @@ use mathlib.Core.Bool.{Bool, true, false, cond}
 use mathlib.Core.List.{List}
 use Prim.Native.Nat.{ℕ, zero, suc, _+_, _-_, _*_, _/_, _%_, _^_, _≤_, _<_}
 use native.Mathlib.Omega.{arith}
-use lib.Dec.{eqb}
 use lib.ListN.{getD}
 use borrow.Author.Tests.{le-leb, lt-leb, eq-eqb, ne-eqb}
 use Rattle.params.specs.Words.{apart}
 use Rattle.compare.specs.Distance.{outermost, codeCost, codeAt, bodyCost, around, lengthCost, ratioCost, checksumCost}
-use Rattle.compare.specs.Words.{byteCost}
+use Rattle.compare.specs.Lanes.{byteCost}
 
 -- ---- the body
 

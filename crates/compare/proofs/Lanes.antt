@@ -2,14 +2,14 @@
 -- Assumes nothing.
 use mathlib.Core.Path.{_≡_, refl, sym, _∙_, ap, ap₂}
 use Prim.Native.Nat.{ℕ, zero, suc, _+_, _-_, _*_, _/_, _%_, _^_, _≤_, _<_}
-use native.Mathlib.Nat.{lt-of-le-of-lt}
+use native.Mathlib.Nat.{lt-of-le-of-lt, mul-le-mul-right}
 use native.Mathlib.Omega.{arith}
 use lib.Dec.{lit<}
 use lib.Pow.{add-lt-pow}
 use lib.Bits.{bitXor, and-le-r}
 use mir.Syntax.{w64}
 use mir.Val.{Fits}
-use Rattle.compare.specs.Words.{byteCost, laneCosts, laneSum}
+use Rattle.compare.specs.Lanes.{laneCosts, laneSum}
 use Rattle.compare.proofs.Costs.{byte-most}
 use Rattle.compare.proofs.Halves.{lows, halves, added, added-halves}
 use Rattle.compare.proofs.Planes.{fives, both, ends, plain, twice, summed-costs, pairCosts, pairs-fit, pairs-lanes, double}
@@ -50,25 +50,30 @@ sums-costs x y =
     (added-halves codes 2 16 (ends bits (both bits (bitXor x y)) x) refl)
     ∙ summed-costs 16 x y
 
--- nothing leaves the 64 bits
+-- nothing leaves the 64 bits: two halves of a mask below 2^63, and up to 5 times the codes 0 and 3
 added-fits : (mask k y : ℕ) → mask < 2 ^ 63 → Fits w64 (added mask k y)
 added-fits mask k y h =
     record { fits = add-lt-pow 63 (lt-of-le-of-lt (and-le-r y mask) h) (lt-of-le-of-lt (and-le-r (y / 2 ^ k) mask) h) }
 
-pub near-fits : (x y : ℕ) → Fits w64 (added codes 2 (plain bits (bitXor x y)))
-near-fits x y = added-fits codes 2 (plain bits (bitXor x y)) (lit< tt)
+abbrev far : ℕ → ℕ → ℕ
+far x y = added codes 2 (ends bits (both bits (bitXor x y)) x)
 
-pub far-fits : (x y : ℕ) → Fits w64 (added codes 2 (ends bits (both bits (bitXor x y)) x))
-far-fits x y = added-fits codes 2 (ends bits (both bits (bitXor x y)) x) (lit< tt)
+times-fit : (x y k : ℕ) → k ≤ 5 → added codes 2 (plain bits (bitXor x y)) + k * far x y < 2 ^ 64
+times-fit x y k h =
+    let s : sums x y < 2 ^ 64 = rw (sums-costs x y) (pairs-fit 16 x y) in
+    omega (arith, s, mul-le-mul-right (far x y) h)
 
-pub sums-fit : (x y : ℕ) → Fits w64 (sums x y)
-sums-fit x y = record { fits = rw (sums-costs x y) (pairs-fit 16 x y) }
+pub near-fits : (y : ℕ) → Fits w64 (added codes 2 y)
+near-fits y = added-fits codes 2 y (lit< tt)
 
-pub five-fits : (x y : ℕ) → Fits w64 (5 * added codes 2 (ends bits (both bits (bitXor x y)) x))
-five-fits x y = record { fits = omega (arith, sums-fit x y .fits) }
+pub costs-fit : (y : ℕ) → Fits w64 (added digits 4 y)
+costs-fit y = added-fits digits 4 y (lit< tt)
 
-pub costs-fit : (x y : ℕ) → Fits w64 (added digits 4 (sums x y))
-costs-fit x y = added-fits digits 4 (sums x y) (lit< tt)
+pub sums-fit : (x y k : ℕ) → k ≤ 5 → Fits w64 (added codes 2 (plain bits (bitXor x y)) + k * far x y)
+sums-fit x y k h = record { fits = times-fit x y k h }
+
+pub far-fits : (x y k : ℕ) → k ≤ 5 → Fits w64 (k * far x y)
+far-fits x y k h = record { fits = omega (arith, times-fit x y k h) }
 
 -- it is the word of the eight costs
 pub word-costs : (x y : ℕ) → added digits 4 (sums x y) ≡ laneCosts 8 x y

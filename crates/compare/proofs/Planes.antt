@@ -12,7 +12,7 @@ use lib.Bits.{bitAnd, bitXor, and-block, xor-block, and-le-l, and-le-r, xor-lt, 
 use Rattle.params.specs.Words.{every}
 use Rattle.params.proofs.Every.{below}
 use Rattle.compare.specs.Distance.{codeCost}
-use Rattle.compare.specs.Words.{byteCost, laneCosts}
+use Rattle.compare.specs.Lanes.{byteCost, laneCosts}
 use Rattle.compare.proofs.Costs.{code-most}
 use Rattle.compare.proofs.Halves.{halves}
 

@@ -5,7 +5,7 @@ use mathlib.Core.Bool.{Bool, true, false, cond, _&&_, and-comm, or-comm, and-fal
 use mathlib.Core.List.{List}
 use Prim.Native.Nat.{ℕ, zero, suc, _+_, _-_, _*_, _/_, _%_, _≤_, _<_, min}
 use native.Mathlib.Omega.{arith}
-use lib.Dec.{T, leb, eqb, eqb→eq}
+use lib.Dec.{leb, eqb, eqb→eq}
 use lib.ListN.{getD, replicate}
 use borrow.Author.Tests.{leb-false, eq-eqb, ne-eqb, eqb-true, eqb-false}
 use Rattle.params.specs.Variants.{known}
@@ -16,12 +16,13 @@ use Rattle.params.proofs.Variants.{by-variant, known-most}
 use Rattle.body.specs.Body.{bytesOf}
 use Rattle.hash.specs.declared.Digest.{Digest}
 use Rattle.hash.specs.Digest.{sameOf}
-use Rattle.hash.proofs.Sameness.{Alike, Agreed, agreed, agreed-same}
+use Rattle.hash.proofs.Sameness.{Alike, agreed, agreed-same}
 use Rattle.compare.specs.declared.DistanceAnswer.{DistanceAnswer}
 use Rattle.compare.specs.Distance.{outermost, codeCost, codeAt, bodyCost, around, costs, lengthCost, ratioCost, checksumCost}
 use Rattle.compare.specs.Distance.{costOf, refusedDistance, comparability, distanceOf}
-use Rattle.compare.specs.Words.{byteCost}
-use Rattle.compare.specs.Theorems.{EitherOrder, Bytes, ZeroForTheSame, SameForZero, greatest, AtMost, lowest, highest, Reached, Totals}
+use Rattle.compare.specs.Lanes.{byteCost}
+use Rattle.compare.specs.Theorems.{EitherOrder, Bytes, ZeroForTheSame, SameForZero}
+use Rattle.compare.specs.Theorems.{greatest, AtMost, Reached, Totals}
 use Rattle.compare.proofs.Costs.{byte-more, body-most}
 use Rattle.compare.proofs.Answers.{comparable-says, comparable-one}
 

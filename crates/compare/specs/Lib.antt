@@ -1,3 +1,3 @@
 pub mod Distance
-pub mod Words
+pub mod Lanes
 pub mod Theorems

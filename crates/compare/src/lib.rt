@@ -11,7 +11,7 @@ ghost use Rattle.params.specs.Variants.{known};
 ghost use Rattle.params.specs.Answers.{unknownVariant, unlikeDigests};
 ghost use Rattle.compare.specs.Distance.{bodyCost, around, lengthCost, ratioCost, checksumCost, refusedDistance, distanceOf};
 ghost use Rattle.compare.specs.Distance.{comparability, costOf, headOf, joined};
-ghost use Rattle.compare.specs.Words.{packed, laneCosts, laneSum, eightCosts, fourCosts};
+ghost use Rattle.compare.specs.Lanes.{packed, laneCosts, laneSum, eightCosts, fourCosts};
 use hash::Digest;
 
 // The number of the answer, and the distance; 0 beside a refusal.
@@ -236,8 +236,8 @@ fn head_of(d: Digest) -> Head
     }
 }
 
-// The distance of two digests; 6, then 12. It does not go by way of `distance_lent`: the cost of bodies that stand on the caller's side
-// is then one call with a number for its answer, and that answer need not go through memory.
+// The distance of two digests; 6, then 12. It does not go by way of `distance_lent`: `cost` then has two callers and stays a call of its
+// own, whose answer is one number and need not go through memory.
 pub fn distance(a: Digest, b: Digest) -> DistanceAnswer
     ensures { λ r. ⌜ r ≡ distanceOf a b ⌝ }
 {

@@ -1,7 +1,8 @@
 -- `compare::word_cost` meets its contract: nothing is borrowed, no sum leaves the 64 bits, and the last is the word of costs.
 -- Assumes nothing.
 use lib.Bits.{bitXor}
-use Rattle.compare.proofs.Lanes.{near-fits, far-fits, costs-fit, once-in, twice-in, sums-fit, five-fits, word-costs, word-most}
+use lib.Dec.{lit≤}
+use Rattle.compare.proofs.Lanes.{near-fits, costs-fit, once-in, twice-in, sums-fit, far-fits, word-costs, word-most}
 use Rattle.compare.proofs.word_cost.Statement.{statement}
 use Rattle.compare.proofs.word_cost.Tie as tie
 
@@ -12,19 +13,19 @@ sub-plain-2 : tie.Need-sub-plain-2
 sub-plain-2 c = twice-in (bitXor (c .args .x) (c .args .y))
 
 add-near : tie.Need-add-near
-add-near c = near-fits (c .args .x) (c .args .y)
+add-near c = search near-fits
 
 add-far : tie.Need-add-far
-add-far c = far-fits (c .args .x) (c .args .y)
+add-far c = search near-fits
 
 mul-s : tie.Need-mul-s
-mul-s c = five-fits (c .args .x) (c .args .y)
+mul-s c = far-fits (c .args .x) (c .args .y) _ (lit≤ tt)
 
 add-s : tie.Need-add-s
-add-s c = sums-fit (c .args .x) (c .args .y)
+add-s c = sums-fit (c .args .x) (c .args .y) _ (lit≤ tt)
 
 add-result : tie.Need-add-result
-add-result c = costs-fit (c .args .x) (c .args .y)
+add-result c = search costs-fit
 
 returns : tie.Need-returns
 returns c = (word-costs (c .args .x) (c .args .y), word-most (c .args .x) (c .args .y))
