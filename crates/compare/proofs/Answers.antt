@@ -2,7 +2,7 @@
 -- Assumes nothing.
 use mathlib.Core.Path.{_≡_, refl, sym, _∙_}
 use mathlib.Core.Bool.{Bool, true, false, cond, not, _&&_}
-use Prim.Native.Nat.{ℕ, _+_, _/_, _%_}
+use Prim.Native.Nat.{ℕ, _+_}
 use native.Mathlib.Omega.{arith}
 use lib.Dec.{eqb}
 use borrow.Author.Tests.{not-true, eq-eqb, ne-eqb, eqb-true}
@@ -12,8 +12,8 @@ use Rattle.params.proofs.Tests.{passed}
 use Rattle.hash.specs.declared.Digest.{Digest}
 use Rattle.compare.specs.declared.DistanceAnswer.{DistanceAnswer}
 use Rattle.compare.specs.declared.Head.{Head}
-use Rattle.compare.specs.Distance.{bodyCost, lengthCost, ratioCost, checksumCost, costOf}
-use Rattle.compare.specs.Distance.{refusedDistance, comparability, distanceOf, headOf, joined}
+use Rattle.compare.specs.Distance.{bodyCost, costOf}
+use Rattle.compare.specs.Distance.{refusedDistance, comparability, distanceOf, headOf, headCost}
 
 -- ---- which number
 
@@ -67,18 +67,9 @@ pub comparable-one : (v w : ℕ) → known v ≡ true → v ≡ w → comparabil
 unfolding comparability
 comparable-one v w k e = rw (← e, k, eq-eqb v v refl)
 
--- the variant that the cost asks for is known
+-- the variant whose bodies are compared is known
 pub known-first : (v w n : ℕ) → n ≡ comparability v w → n ≡ 0 → known v ≡ true
 known-first v w n e z = comparable-says v w (sym e ∙ z) .first
-
--- ---- the cost
-
-pub cost-sum : (a b : Digest) (u q₁ q₂ c t : ℕ) → u ≡ lengthCost (a .«length_code») (b .«length_code»)
-    → q₁ ≡ ratioCost (a .ratios % 16) (b .ratios % 16) → q₂ ≡ ratioCost (a .ratios / 16) (b .ratios / 16)
-    → c ≡ checksumCost (a .checksum) (b .checksum) → t ≡ bodyCost (a .variant) (a .body) (b .body)
-    → t + (u + q₁ + q₂ + c) ≡ costOf a b
-unfolding costOf
-cost-sum a b u q₁ q₂ c t e₁ e₂ e₃ e₄ e₅ = omega arith
 
 -- ---- the answers
 
@@ -88,17 +79,15 @@ module _ (a b : Digest) (n : ℕ) (e : n ≡ comparability (a .variant) (b .vari
   unfolding distanceOf
   distance-refused r z q = rw (q, ← e, ne-eqb n 0 z)
 
-  -- 0
-  pub distance-done : (s : ℕ) → n ≡ 0 → s ≡ costOf a b → record { number = done; distance = s } ≡ distanceOf a b
-  unfolding distanceOf
-  distance-done s z q = rw (← e, eq-eqb n 0 z, q)
+  -- 0, with the heads' cost and the bodies'
+  pub distance-done : (h t : ℕ) → n ≡ 0 → h ≡ headCost (headOf a) (headOf b) → t ≡ bodyCost (a .variant) (a .body) (b .body)
+      → record { number = done; distance = t + h } ≡ distanceOf a b
+  unfolding distanceOf costOf
+  distance-done h t z p q =
+      let s : t + h ≡ costOf a b = omega arith in
+      rw (← e, eq-eqb n 0 z, s)
 
-  -- a digest taken apart and put together
-  pub distance-whole : (h k : Head) (s : ℕ) → n ≡ 0 → h ≡ headOf a → k ≡ headOf b
-      → s ≡ costOf (joined h (a .body)) (joined k (b .body)) → record { number = done; distance = s } ≡ distanceOf a b
-  distance-whole h k s z p q d = distance-done s z (rw (p, q) at d)
-
--- the variant of a digest's head is the digest's
-pub known-head : (a b : Digest) (n : ℕ) (h : Head) → n ≡ comparability (a .variant) (b .variant) → n ≡ 0 → h ≡ headOf a
-    → known (h .variant) ≡ true
-known-head a b n h e z p = rw p (known-first (a .variant) (b .variant) n e z)
+  -- the same of heads that were taken from the digests
+  pub distance-whole : (f g : Head) (h t : ℕ) → n ≡ 0 → f ≡ headOf a → g ≡ headOf b → h ≡ headCost f g
+      → t ≡ bodyCost (a .variant) (a .body) (b .body) → record { number = done; distance = t + h } ≡ distanceOf a b
+  distance-whole f g h t z p q d u = distance-done h t z (rw (p, q) at d) u

@@ -1,12 +1,14 @@
 -- The costs of codes, bytes, length codes, ratios and checksums.
 -- Assumes nothing.
-use mathlib.Core.Path.{_≡_, _∙_, ap, ap₂}
+use mathlib.Core.Path.{_≡_, refl, _∙_, ap, ap₂}
 use mathlib.Core.Bool.{Bool, true, false, cond}
 use mathlib.Core.List.{List}
-use Prim.Native.Nat.{ℕ, zero, suc, _+_, _-_, _*_, _/_, _%_, _^_, _≤_, _<_}
+use mathlib.Core.Logic.{_⊎_, inl, inr, ⊎-elim}
+use Prim.Native.Nat.{ℕ, zero, suc, _+_, _-_, _*_, _/_, _%_, _^_, _≤_, _<_, min}
 use native.Mathlib.Omega.{arith}
+use lib.Dec.{leb}
 use lib.ListN.{getD}
-use borrow.Author.Tests.{le-leb, lt-leb, eq-eqb, ne-eqb}
+use borrow.Author.Tests.{le-leb, lt-leb, leb-true, leb-false, eq-eqb, ne-eqb}
 use Rattle.params.specs.Words.{apart}
 use Rattle.compare.specs.Distance.{outermost, codeCost, codeAt, bodyCost, around, lengthCost, ratioCost, checksumCost}
 use Rattle.compare.specs.Lanes.{byteCost}
@@ -71,21 +73,60 @@ byte-more m xs ys =
 
 -- ---- the length code, a ratio, the checksum: what the code computes, near and far
 
-pub length-near : (a b v w d : ℕ) → v ≡ a → w ≡ b → d ≡ around 256 v w → d ≤ 1 → d ≡ lengthCost a b
-unfolding lengthCost
-length-near a b v w d p q r l = rw (← p, ← q, ← r, le-leb d 1 l)
+-- the shorter way around, of which one is the difference modulo n
+abbrev shorter : ℕ → ℕ → ℕ
+shorter n d = min d (n - d)
 
-pub length-far : (a b v w d : ℕ) → v ≡ a → w ≡ b → d ≡ around 256 v w → 1 < d → 12 * d ≡ lengthCost a b
-unfolding lengthCost
-length-far a b v w d p q r l = rw (← p, ← q, ← r, lt-leb d 1 l)
+-- from either end it is the same
+shorter-back : (n d : ℕ) → d ≤ n → shorter n (n - d) ≡ shorter n d
+shorter-back n d h = omega arith
 
-pub ratio-near : (a b v w d : ℕ) → v ≡ a → w ≡ b → d ≡ around 16 v w → d ≤ 1 → d ≡ ratioCost a b
-unfolding ratioCost
-ratio-near a b v w d p q r l = rw (← p, ← q, ← r, le-leb d 1 l)
+-- a difference, or the rest of the circle
+either-way : (n a b d : ℕ) → a < n → b < n → ((d ≡ a - b) × (b ≤ a)) ⊎ ((d ≡ n - (b - a)) × (a < b)) → shorter n d ≡ around n a b
+either-way n a b d h k = ⊎-elim ahead behind
+  where
+    ahead : (d ≡ a - b) × (b ≤ a) → shorter n d ≡ around n a b
+    ahead p =
+        let l = p .1 in
+        let e : a - b ≡ apart a b = omega arith in
+        ap (shorter n) (p .0 ∙ e)
 
-pub ratio-far : (a b v w d : ℕ) → v ≡ a → w ≡ b → d ≡ around 16 v w → 1 < d → 12 * (d - 1) ≡ ratioCost a b
-unfolding ratioCost
-ratio-far a b v w d p q r l = rw (← p, ← q, ← r, lt-leb d 1 l)
+    behind : (d ≡ n - (b - a)) × (a < b) → shorter n d ≡ around n a b
+    behind p =
+        let l = p .1 in
+        let e : b - a ≡ apart a b = omega arith in
+        ap (shorter n) (p .0) ∙ shorter-back n (b - a) (omega arith) ∙ ap (shorter n) e
+
+around-256 : (a b : ℕ) → a < 256 → b < 256 → shorter 256 ((256 + a - b) % 256) ≡ around 256 a b
+around-256 a b h k = either-way 256 a b ((256 + a - b) % 256) h k (go (leb b a) refl)
+  where
+    go : (t : Bool) → leb b a ≡ t → (((256 + a - b) % 256 ≡ a - b) × (b ≤ a)) ⊎ (((256 + a - b) % 256 ≡ 256 - (b - a)) × (a < b))
+    go true e = let l = leb-true b a e in inl (omega arith, l)
+    go false e = let l = leb-false b a e in inr (omega arith, l)
+
+around-16 : (a b : ℕ) → a < 16 → b < 16 → shorter 16 ((16 + a - b) % 16) ≡ around 16 a b
+around-16 a b h k = either-way 16 a b ((16 + a - b) % 16) h k (go (leb b a) refl)
+  where
+    go : (t : Bool) → leb b a ≡ t → (((16 + a - b) % 16 ≡ a - b) × (b ≤ a)) ⊎ (((16 + a - b) % 16 ≡ 16 - (b - a)) × (a < b))
+    go true e = let l = leb-true b a e in inl (omega arith, l)
+    go false e = let l = leb-false b a e in inr (omega arith, l)
+
+module _ (a b v w d : ℕ) (p : v ≡ a) (q : w ≡ b) where
+  pub length-near : v < 256 → w < 256 → d ≡ min ((256 + v - w) % 256) (256 - (256 + v - w) % 256) → d ≤ 1 → d ≡ lengthCost a b
+  unfolding lengthCost
+  length-near h k r l = rw (← p, ← q, ← around-256 v w h k, ← r, le-leb d 1 l)
+
+  pub length-far : v < 256 → w < 256 → d ≡ min ((256 + v - w) % 256) (256 - (256 + v - w) % 256) → 1 < d → 12 * d ≡ lengthCost a b
+  unfolding lengthCost
+  length-far h k r l = rw (← p, ← q, ← around-256 v w h k, ← r, lt-leb d 1 l)
+
+  pub ratio-near : a < 16 → b < 16 → d ≡ min ((16 + v - w) % 16) (16 - (16 + v - w) % 16) → d ≤ 1 → d ≡ ratioCost a b
+  unfolding ratioCost
+  ratio-near h k r l = rw (← around-16 a b h k, ← p, ← q, ← r, le-leb d 1 l)
+
+  pub ratio-far : a < 16 → b < 16 → d ≡ min ((16 + v - w) % 16) (16 - (16 + v - w) % 16) → 1 < d → 12 * (d - 1) ≡ ratioCost a b
+  unfolding ratioCost
+  ratio-far h k r l = rw (← around-16 a b h k, ← p, ← q, ← r, lt-leb d 1 l)
 
 pub checksum-equal : (a b : ℕ) → a ≡ b → 0 ≡ checksumCost a b
 unfolding checksumCost

@@ -86,3 +86,11 @@ headOf d = record { variant = d .variant; checksum = d .checksum; «length_code�
 abbrev pub joined : Head → List ℕ → Digest
 joined h body =
     record { body = body; variant = h .variant; checksum = h .checksum; «length_code» = h .«length_code»; ratios = h .ratios }
+
+-- what two digests cost without their bodies
+abbrev pub headCost : Head → Head → ℕ
+headCost a b =
+    lengthCost (a .«length_code») (b .«length_code»)
+    + ratioCost (a .ratios % 16) (b .ratios % 16)
+    + ratioCost (a .ratios / 16) (b .ratios / 16)
+    + checksumCost (a .checksum) (b .checksum)

@@ -5,12 +5,11 @@
 // without a carry, and the bytes of the last one are added up (`total`).
 ghost use mathlib.Core.Path.{_≡_};
 ghost use mathlib.Core.Bool.{true, cond, not, _&&_};
-ghost use Prim.Native.Nat.{_+_, _*_, _≤_, _<_};
-ghost use Rattle.params.specs.Words.{apart};
+ghost use Prim.Native.Nat.{_+_, _-_, _*_, _≤_, _<_, min};
 ghost use Rattle.params.specs.Variants.{known};
 ghost use Rattle.params.specs.Answers.{unknownVariant, unlikeDigests};
-ghost use Rattle.compare.specs.Distance.{bodyCost, around, lengthCost, ratioCost, checksumCost, refusedDistance, distanceOf};
-ghost use Rattle.compare.specs.Distance.{comparability, costOf, headOf, joined};
+ghost use Rattle.compare.specs.Distance.{bodyCost, lengthCost, ratioCost, checksumCost, refusedDistance, distanceOf};
+ghost use Rattle.compare.specs.Distance.{comparability, headOf, joined, headCost};
 ghost use Rattle.compare.specs.Lanes.{packed, laneCosts, laneSum, eightCosts, fourCosts};
 use hash::Digest;
 
@@ -110,19 +109,11 @@ fn wide(x: u8) -> u32
     x as u32
 }
 
-// How far two numbers are apart.
-fn difference(a: u32, b: u32) -> u32
-    ensures { λ r. ⌜ r ≡ apart a b ⌝ }
+// The shorter of the two ways around a circle of n, of which one is d.
+fn circle(n: u32, d: u32) -> u32
+    requires { ⌜ d < n ⌝ }
+    ensures { λ r. ⌜ (r ≡ min d (n - d)) × (2 * r ≤ n) ⌝ }
 {
-    if a < b { b - a } else { a - b }
-}
-
-// How far two numbers are apart around a circle of n.
-fn circle(n: u32, a: u32, b: u32) -> u32
-    requires { ⌜ (a < n) × (b < n) ⌝ }
-    ensures { λ r. ⌜ (r ≡ around n a b) × (2 * r ≤ n) ⌝ }
-{
-    let d = difference(a, b);
     if d <= n - d { d } else { n - d }
 }
 
@@ -130,7 +121,7 @@ fn circle(n: u32, a: u32, b: u32) -> u32
 fn length_cost(a: u8, b: u8) -> u32
     ensures { λ r. ⌜ (r ≡ lengthCost a b) × (r ≤ 1536) ⌝ }
 {
-    let d = circle(256, wide(a), wide(b));
+    let d = circle(256, (256 + wide(a) - wide(b)) % 256);
     if d <= 1 { d } else { 12 * d }
 }
 
@@ -139,7 +130,7 @@ fn ratio_cost(a: u8, b: u8) -> u32
     requires { ⌜ (a < 16) × (b < 16) ⌝ }
     ensures { λ r. ⌜ (r ≡ ratioCost a b) × (r ≤ 84) ⌝ }
 {
-    let d = circle(16, wide(a), wide(b));
+    let d = circle(16, (16 + wide(a) - wide(b)) % 16);
     if d <= 1 { d } else { 12 * (d - 1) }
 }
 
@@ -195,22 +186,20 @@ pub struct Head {
     pub ratios: u8,
 }
 
-// The cost of two digests of one known variant. The bodies come last, so that one number is left to keep while they are compared.
-fn cost(a: Head, x: &[u8; 64], b: Head, y: &[u8; 64]) -> u32
-    requires { ⌜ known (a .variant) ≡ true ⌝ }
-    ensures { λ r. ⌜ r ≡ costOf (joined a (now (x .entry))) (joined b (now (y .entry))) ⌝ }
+// The cost of two digests without their bodies.
+fn head_cost(a: Head, b: Head) -> u32
+    ensures { λ r. ⌜ (r ≡ headCost a b) × (r ≤ 1705) ⌝ }
 {
     let length = length_cost(a.length_code, b.length_code);
     let q1 = ratio_cost(a.ratios % 16, b.ratios % 16);
     let q2 = ratio_cost(a.ratios / 16, b.ratios / 16);
     let checksum = checksum_cost(a.checksum, b.checksum);
-    let rest = length + q1 + q2 + checksum;
-    let body = body_cost(x, y, a.variant);
-    let sum = body + rest;
+    let sum = length + q1 + q2 + checksum;
     sum
 }
 
-// The distance of two digests whose bodies are lent; 6, then 12.
+// The distance of two digests whose bodies are lent; 6, then 12. The bodies come last, so that one number is left to keep while they
+// are compared.
 pub fn distance_lent(a: Head, x: &[u8; 64], b: Head, y: &[u8; 64]) -> DistanceAnswer
     ensures { λ r. ⌜ r ≡ distanceOf (joined a (now (x .entry))) (joined b (now (y .entry))) ⌝ }
 {
@@ -218,9 +207,12 @@ pub fn distance_lent(a: Head, x: &[u8; 64], b: Head, y: &[u8; 64]) -> DistanceAn
     if number != params::DONE {
         return refused(number);
     }
+    let heads = head_cost(a, b);
+    let lent = body_cost(x, y, a.variant);
+    let distance = lent + heads;
     DistanceAnswer {
         number: params::DONE,
-        distance: cost(a, x, b, y),
+        distance,
     }
 }
 
@@ -236,8 +228,8 @@ fn head_of(d: Digest) -> Head
     }
 }
 
-// The distance of two digests; 6, then 12. It does not go by way of `distance_lent`: `cost` then has two callers and stays a call of its
-// own, whose answer is one number and need not go through memory.
+// The distance of two digests; 6, then 12. It does not go by way of `distance_lent`: `body_cost` then has two callers and stays a call of
+// its own, whose answer is one number and need not go through memory.
 pub fn distance(a: Digest, b: Digest) -> DistanceAnswer
     ensures { λ r. ⌜ r ≡ distanceOf a b ⌝ }
 {
@@ -245,8 +237,11 @@ pub fn distance(a: Digest, b: Digest) -> DistanceAnswer
     if number != params::DONE {
         return refused(number);
     }
+    let heads = head_cost(head_of(a), head_of(b));
+    let bodies = body_cost(&a.body, &b.body, a.variant);
+    let distance = bodies + heads;
     DistanceAnswer {
         number: params::DONE,
-        distance: cost(head_of(a), &a.body, head_of(b), &b.body),
+        distance,
     }
 }

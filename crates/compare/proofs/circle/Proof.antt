@@ -4,9 +4,6 @@ use borrow.Author.Needs.{needs}
 use Rattle.compare.proofs.circle.Statement.{statement}
 use Rattle.compare.proofs.circle.Tie as tie
 
-difference-requires : tie.Need-difference-requires
-difference-requires c κs = search needs
-
 sub-if1 : tie.Need-sub-if1
 sub-if1 c = search needs
 
@@ -20,4 +17,4 @@ returns-2 : tie.Need-returns-2
 returns-2 c = search needs
 
 pub circle-spec : {M : Type 1} → statement M
-circle-spec = tie.close (tie.spec difference-requires sub-if1 sub-result returns returns-2)
+circle-spec = tie.close (tie.spec sub-if1 sub-result returns returns-2)

@@ -1,6 +1,6 @@
--- `compare::distance` meets its contract: a digest is its head and its body.
+-- `compare::distance` meets its contract: a refusal, or the sum.
 -- Assumes nothing.
-use Rattle.compare.proofs.Answers.{known-head, distance-refused, distance-whole}
+use Rattle.compare.proofs.Answers.{known-first, distance-refused, distance-whole}
 use borrow.Author.Needs.{needs}
 use Rattle.compare.proofs.distance.Statement.{statement}
 use Rattle.compare.proofs.distance.Tie as tie
@@ -20,8 +20,14 @@ head-of-requires c κs = search needs
 head-of-requires-2 : tie.Need-head-of-requires-2
 head-of-requires-2 c κs = search needs
 
-cost-requires : tie.Need-cost-requires
-cost-requires c κs = search known-head
+head-cost-requires : tie.Need-head-cost-requires
+head-cost-requires c κs = search needs
+
+body-cost-requires : tie.Need-body-cost-requires
+body-cost-requires c κs = search known-first
+
+add-distance : tie.Need-add-distance
+add-distance c = search needs
 
 returns-2 : tie.Need-returns-2
 returns-2 c = search distance-whole
@@ -35,5 +41,7 @@ distance-spec =
     returns
     head-of-requires
     head-of-requires-2
-    cost-requires
+    head-cost-requires
+    body-cost-requires
+    add-distance
     returns-2)

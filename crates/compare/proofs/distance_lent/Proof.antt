@@ -1,4 +1,4 @@
--- `compare::distance_lent` meets its contract: a refusal, or the cost.
+-- `compare::distance_lent` meets its contract: a refusal, or the sum.
 -- Assumes nothing.
 use Rattle.compare.proofs.Answers.{known-first, distance-refused, distance-done}
 use borrow.Author.Needs.{needs}
@@ -14,8 +14,14 @@ refused-requires c κs = search needs
 returns : tie.Need-returns
 returns c = search distance-refused
 
-cost-requires : tie.Need-cost-requires
-cost-requires c κs = search known-first
+head-cost-requires : tie.Need-head-cost-requires
+head-cost-requires c κs = search needs
+
+body-cost-requires : tie.Need-body-cost-requires
+body-cost-requires c κs = search known-first
+
+add-distance : tie.Need-add-distance
+add-distance c = search needs
 
 returns-2 : tie.Need-returns-2
 returns-2 c = search distance-done
@@ -27,5 +33,7 @@ distance-lent-spec =
     comparable-requires
     refused-requires
     returns
-    cost-requires
+    head-cost-requires
+    body-cost-requires
+    add-distance
     returns-2)

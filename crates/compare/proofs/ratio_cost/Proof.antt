@@ -8,8 +8,14 @@ use Rattle.compare.proofs.ratio_cost.Tie as tie
 wide-requires : tie.Need-wide-requires
 wide-requires c κs = search needs
 
+add-circle : tie.Need-add-circle
+add-circle c = search needs
+
 wide-requires-2 : tie.Need-wide-requires-2
 wide-requires-2 c κs = search needs
+
+sub-circle : tie.Need-sub-circle
+sub-circle c = search needs
 
 circle-requires : tie.Need-circle-requires
 circle-requires c κs = search needs
@@ -31,7 +37,9 @@ ratio-cost-spec =
     tie.close
     (tie.spec
     wide-requires
+    add-circle
     wide-requires-2
+    sub-circle
     circle-requires
     sub-result
     mul-result
