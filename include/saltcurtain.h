@@ -1,6 +1,7 @@
 /* Saltcurtain: the TLSH fuzzy hash, proved. C entry points.
  *
- * Every function answers a number: 0, or one refusal. A refusal writes nothing.
+ * Every function answers a number: 0, or one refusal; or a struct that begins with it, and has zeros after a refusal. A refusal
+ * writes nothing.
  *
  *    0  done
  *    1  the input is longer than the variant takes
@@ -14,6 +15,7 @@
  *    9  the text doesn't begin T1, or a character isn't 0-9 or A-F
  *   10  an unknown option bit
  *   11  the quartiles are not ordered, or the third is 0
+ *   12  the digests are of different variants
  *
  * variant   48 (short), 128 (normal) or 256 (long): the number of used buckets
  * options   added: 1 conservative minimum lengths, 2 integer ratios, and three that let through what is refused otherwise:
@@ -62,6 +64,46 @@ uint32_t saltcurtain_ratios(uint32_t q1, uint32_t q2, uint32_t q3, uint32_t out[
 
 /* Writes one number: the code of a length. Refusal: 5. */
 uint32_t saltcurtain_length_code(uint32_t n, uint32_t out[1]);
+
+/* The number of the answer, and a distance. */
+struct saltcurtain_distance {
+    uint32_t number;
+    uint32_t distance;
+};
+
+/* The distance of the digests of two texts: 0 for the same digest, and the greater the less alike they are; at most 1993, 2473 and
+ * 3241 in the short, the normal and the long variant. Either order gives the same.
+ * Refusals, in this order: 6, 12, then 8 and 9 of the first text, then 8 and 9 of the second. */
+struct saltcurtain_distance saltcurtain_distance(uint32_t variant_a, const uint8_t *text_a, size_t text_a_len,
+                                                 uint32_t variant_b, const uint8_t *text_b, size_t text_b_len);
+
+/* A digest without its body. The ratio of the first quartile is in the low four bits of `ratios`. */
+struct saltcurtain_head {
+    uint32_t variant;
+    uint8_t checksum;
+    uint8_t length_code;
+    uint8_t ratios;
+};
+
+/* A digest. The body uses its first 12, 32 or 64 bytes. */
+struct saltcurtain_record {
+    uint8_t body[64];
+    struct saltcurtain_head head;
+};
+
+/* The number of the answer, and the digest that was read. */
+struct saltcurtain_read {
+    uint32_t number;
+    struct saltcurtain_record digest;
+};
+
+/* Reads a digest's text, for a caller who compares it often. Refusals, in this order: 6, 8, 9. */
+struct saltcurtain_read saltcurtain_read(uint32_t variant, const uint8_t *text, size_t text_len);
+
+/* The distance of two digests that were read, each given by its head and its 64 bytes of body; bytes that the variant does not use
+ * make no difference. Refusals, in this order: 6, 12. */
+struct saltcurtain_distance saltcurtain_distance_read(struct saltcurtain_head a, const uint8_t body_a[64],
+                                                      struct saltcurtain_head b, const uint8_t body_b[64]);
 
 #ifdef __cplusplus
 }

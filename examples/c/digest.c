@@ -1,4 +1,5 @@
-/* The doc examples of fast-tlsh's generate.rs through the C entry: each input, its options, and the digest it must give. */
+/* The doc examples of fast-tlsh's generate.rs through the C entry: each input, its options, and the digest it must give; then the
+ * distance of the first two digests, from their texts and from what was read of them. */
 #include "saltcurtain.h"
 #include <stdio.h>
 #include <string.h>
@@ -23,5 +24,12 @@ int main(void)
         printf("%u %s\n", number, text);
         wrong |= number != 0 || strcmp(text, examples[i].text) != 0;
     }
+    const uint8_t *one = (const uint8_t *)examples[0].text, *other = (const uint8_t *)examples[1].text;
+    struct saltcurtain_distance d = saltcurtain_distance(128, one, SALTCURTAIN_TEXT_128, 128, other, SALTCURTAIN_TEXT_128);
+    struct saltcurtain_read a = saltcurtain_read(128, one, SALTCURTAIN_TEXT_128);
+    struct saltcurtain_read b = saltcurtain_read(128, other, SALTCURTAIN_TEXT_128);
+    struct saltcurtain_distance e = saltcurtain_distance_read(a.digest.head, a.digest.body, b.digest.head, b.digest.body);
+    printf("%u %u\n", d.number, d.distance);
+    wrong |= d.number != 0 || d.distance != 146 || a.number != 0 || b.number != 0 || e.number != 0 || e.distance != 146;
     return wrong;
 }

@@ -27,6 +27,8 @@ pub enum Error {
     UnknownOption,
     /// 11: the quartiles do not rise, or the third is 0.
     Quartiles,
+    /// 12: the digests are of different variants.
+    UnlikeDigests,
     /// 19: a state that no bytes reach.
     UnreachableState,
     /// Any other number. No entry point gives one.
@@ -48,6 +50,7 @@ impl Error {
             Self::TextForm => 9,
             Self::UnknownOption => 10,
             Self::Quartiles => 11,
+            Self::UnlikeDigests => 12,
             Self::UnreachableState => 19,
             Self::Unlisted(number) => number,
         }
@@ -68,6 +71,7 @@ impl Error {
             9 => Self::TextForm,
             10 => Self::UnknownOption,
             11 => Self::Quartiles,
+            12 => Self::UnlikeDigests,
             19 => Self::UnreachableState,
             other => Self::Unlisted(other),
         })
@@ -88,6 +92,7 @@ impl fmt::Display for Error {
             Self::TextForm => "the text does not begin T1, or has a character other than 0-9 and A-F",
             Self::UnknownOption => "the option number has an unknown bit",
             Self::Quartiles => "the quartiles do not rise, or the third is 0",
+            Self::UnlikeDigests => "the digests are of different variants",
             Self::UnreachableState => "no bytes lead to this state",
             Self::Unlisted(number) => return write!(to, "answer {number}, which is not listed"),
         })

@@ -1,7 +1,7 @@
 //! TLSH fuzzy hashes by Saltcurtain, a library whose every function is proved to give exactly the answer that its definitions name.
 //!
 //! This crate is the safe side for Rust: types instead of numbers, slices instead of pointers, no heap, no `std`. All work is
-//! done by the static library; [`raw`] has its five entry points as they are, on numbers and slices.
+//! done by the static library; [`raw`] has its eight entry points as they are, on numbers and slices.
 //!
 //! ```
 //! use saltcurtain::{Error, Options, Variant, digest};
@@ -17,12 +17,14 @@
 #![no_std]
 #![warn(missing_docs)]
 
+mod digest;
 mod error;
 mod options;
 pub mod raw;
 mod text;
 mod variant;
 
+pub use digest::Digest;
 pub use error::Error;
 pub use options::Options;
 pub use text::Text;
@@ -110,4 +112,25 @@ pub fn length_code(n: u32) -> Result<u32, Error> {
     let mut out = [0];
     Error::check(raw::length_code(n, &mut out))?;
     Ok(out[0])
+}
+
+/// The distance of the digests of two texts: 0 for the same digest, and the greater the less alike they are. Whoever compares a
+/// text more than once reads it once, to a [`Digest`].
+///
+/// ```
+/// use saltcurtain::{Error, Variant, distance};
+///
+/// let one = "T14A90024954691E114404124180D942C1450F8423775ADE1510211420456593621A8173";
+/// let other = "T19E90024A21181294648A1888438D94B292C8C510612114116430600218082219C98551";
+/// assert_eq!(distance(Variant::Normal, one, Variant::Normal, other), Ok(146));
+/// assert_eq!(distance(Variant::Normal, one, Variant::Long, other), Err(Error::UnlikeDigests));
+/// ```
+pub fn distance(
+    variant_a: Variant,
+    text_a: impl AsRef<[u8]>,
+    variant_b: Variant,
+    text_b: impl AsRef<[u8]>,
+) -> Result<u32, Error> {
+    let answer = raw::distance(variant_a.number(), text_a.as_ref(), variant_b.number(), text_b.as_ref());
+    Error::check(answer.number).map(|()| answer.distance)
 }

@@ -136,14 +136,14 @@ fn a_refusal_writes_nothing() {
 
 #[test]
 fn the_numbers_of_the_refusals() {
-    for number in (1..=11).chain([19]) {
+    for number in (1..=12).chain([19]) {
         let error = Error::check(number).unwrap_err();
         assert_eq!(error.number(), number);
         assert!(!matches!(error, Error::Unlisted(_)));
         assert!(!error.to_string().is_empty());
     }
     assert_eq!(Error::check(0), Ok(()));
-    assert_eq!(Error::check(12), Err(Error::Unlisted(12)));
+    assert_eq!(Error::check(13), Err(Error::Unlisted(13)));
     assert_eq!(Options::from_number(32), Err(Error::UnknownOption));
     for variant in Variant::ALL {
         assert_eq!(Variant::from_number(variant.number()), Some(variant));

@@ -50,6 +50,10 @@ unknownOption = 10
 abbrev pub unorderedQuartiles : ℕ
 unorderedQuartiles = 11
 
+-- the digests are of different variants
+abbrev pub unlikeDigests : ℕ
+unlikeDigests = 12
+
 -- a state that no bytes can reach, by the three marks
 abbrev pub unreachedState : ℕ
 unreachedState = 19

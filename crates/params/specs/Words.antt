@@ -1,12 +1,16 @@
 -- Small words that the definitions of several crates share. The kit's `cond`, `_&&_` and `_||_` choose and join tests.
 -- Assumes nothing.
-use Prim.Native.Nat.{ℕ, suc, _+_}
+use Prim.Native.Nat.{ℕ, suc, _+_, _-_}
 use mathlib.Core.Bool.{Bool, true, false, cond, _&&_}
 use mathlib.Core.List.{List, [], _∷_}
 
 -- the test b, where nothing lifts it
 abbrev pub unless : Bool → Bool → Bool
 unless lifted b = cond lifted false b
+
+-- how far two numbers are apart: `_-_` stops at 0, so one of the two terms is 0
+abbrev pub apart : ℕ → ℕ → ℕ
+apart a b = (a - b) + (b - a)
 
 -- the sum of a list
 unfoldable pub sum : List ℕ → ℕ

@@ -35,6 +35,8 @@ pub const UNKNOWN_OPTION: u32 = 10;
 
 pub const UNORDERED_QUARTILES: u32 = 11;
 
+pub const UNLIKE_DIGESTS: u32 = 12;
+
 pub const UNREACHED_STATE: u32 = 19;
 
 // Whether a number is one of the three variants.

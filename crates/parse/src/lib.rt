@@ -12,6 +12,7 @@ ghost use Rattle.parse.specs.Reading.{refusedRead, digitsOf, beginsT1, r
 use hash::Digest;
 
 // The number of the answer, and the digest that was read; all zero beside a refusal.
+#[repr(C)]
 pub struct ReadAnswer {
     pub number: u32,
     pub digest: Digest,

@@ -8,7 +8,8 @@ use native.Mathlib.Nat.{mul-lt-mul-of-pos-right, le-of-mul-le-mul-right, eq-of-m
 use native.Mathlib.Omega.{arith}
 use lib.Pow.{pow-add, pow-pos, pow-mono}
 use Rattle.qratios.specs.Single.{Single, top, bottom, single}
-use Rattle.qratios.specs.Demands.{apart, away, Same, NoNearer, TiesToEven}
+use Rattle.params.specs.Words.{apart}
+use Rattle.qratios.specs.Demands.{away, Same, NoNearer, TiesToEven}
 use Rattle.qratios.proofs.Rounding.{below-or-not, apart-mul, half-nearest, rounded-even}
 use Rattle.qratios.proofs.Shape.{Shape, shape, single-zero, near}
 use Rattle.qratios.proofs.Carry.{carries, scaled-value}

@@ -11,7 +11,7 @@ use native.Mathlib.Omega.{arith}
 use lib.Dec.{T, isLe, isEq, leb→le, nleb→lt, eqb→eq, eqb-refl}
 use lib.Arith.{lt-of-le-ne}
 use Rattle.qratios.specs.Single.{closer, rounded}
-use Rattle.qratios.specs.Demands.{apart}
+use Rattle.params.specs.Words.{apart}
 
 -- one number is below another, or not
 pub below-or-not : (n m : ℕ) → (n < m) ⊎ (m ≤ n)

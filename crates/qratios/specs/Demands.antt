@@ -3,15 +3,12 @@
 use Prim.Native.Nat.{ℕ, suc, _+_, _-_, _*_, _%_, _^_, _≤_, _<_}
 use mathlib.Core.Path.{_≡_}
 use mathlib.Core.Bool.{true, false}
+use Rattle.params.specs.Words.{apart}
 use Rattle.params.specs.Answers.{done}
 use Rattle.qratios.specs.Single.{Single, top, bottom, bits, fromBits, single}
 use Rattle.qratios.specs.Ratios.{integerWhole, floatingWhole, ratiosOf, byteAnswered}
 
 -- ---- the single-precision number nearest to n / d, for an n and a d below 2 ^ 64
-
--- how far two numbers are apart: `_-_` stops at 0, so one of the two terms is 0
-abbrev pub apart : ℕ → ℕ → ℕ
-apart a b = (a - b) + (b - a)
 
 -- how far x lies from n / d, times d and times the bottom of x
 abbrev pub away : ℕ → ℕ → Single → ℕ

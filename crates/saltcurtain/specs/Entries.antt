@@ -15,6 +15,8 @@ use Rattle.qratios.specs.Ratios.{quotient, ordered, ratiosOf}
 use Rattle.hash.specs.declared.Digest.{Digest}
 use Rattle.text.specs.Text.{textSize, Wrote, writeOf}
 use Rattle.parse.specs.Reading.{readOf}
+use Rattle.compare.specs.declared.DistanceAnswer.{DistanceAnswer}
+use Rattle.compare.specs.Distance.{refusedDistance, comparability, distanceOf}
 use Rattle.finalize.specs.declared.Finalized.{Finalized}
 use Rattle.finalize.specs.Final.{digestOf}
 
@@ -63,3 +65,11 @@ ratiosWritten q1 q2 q3 lent =
 unfoldable pub codeWritten : ℕ → List ℕ → Wrote
 codeWritten n lent =
     cond (eqb (coded n .number) done) (record { number = done; destination = coded n .code ∷ [] }) (kept (coded n .number) lent)
+
+-- the distance of the digests of two texts: 6, then 12, then the reader's 8 and 9 of the first text, then those of the second
+unfoldable pub textsDistance : ℕ → List ℕ → ℕ → List ℕ → DistanceAnswer
+textsDistance v s w t =
+    cond (not (eqb (comparability v w) done)) (refusedDistance (comparability v w))
+    (cond (not (eqb (readOf v s .number) done)) (refusedDistance (readOf v s .number))
+    (cond (not (eqb (readOf w t .number) done)) (refusedDistance (readOf w t .number))
+    (distanceOf (readOf v s .digest) (readOf w t .digest))))

@@ -1,13 +1,20 @@
 // The C entry points, thin over the library. include/saltcurtain.h says what a caller in C has to know of each.
 //
-// A slice is a pointer and a length. The answer is a number: 0, or one refusal. A refusal writes nothing.
+// A slice is a pointer and a length. The answer is a number: 0, or one refusal, or a struct that begins with it and is zero after a
+// refusal. A refusal writes nothing.
 ghost use mathlib.Core.Path.{_≡_};
 ghost use Prim.Native.Nat.{_<_, min};
 ghost use Rattle.generate.specs.Answer.{updated};
 ghost use Rattle.text.specs.Text.{Written};
+ghost use Rattle.parse.specs.Reading.{readOf};
+ghost use Rattle.compare.specs.Distance.{refusedDistance, distanceOf, withBody};
 ghost use Rattle.finalize.specs.Final.{finalized};
 ghost use Rattle.saltcurtain.specs.Entries.{argumentNumber, given, digested, rewritten, ratiosWritten, codeWritten};
+ghost use Rattle.saltcurtain.specs.Entries.{textsDistance};
+use compare::DistanceAnswer;
+use compare::Head;
 use generate::State;
+use parse::ReadAnswer;
 
 // 10, then 6, then 7 of a one-shot digest's arguments, or 0.
 fn judge(variant: u32, options: u32, room: usize) -> u32
@@ -161,4 +168,62 @@ pub extern "C" fn saltcurtain_length_code(n: u32, out: &mut [u32; 1]) -> u32
     let code = c.code as u32;
     *out = [code];
     params::DONE
+}
+
+// A refused distance.
+fn no_distance(number: u32) -> DistanceAnswer
+    ensures { λ r. ⌜ r ≡ refusedDistance number ⌝ }
+{
+    DistanceAnswer {
+        number,
+        distance: 0,
+    }
+}
+
+// The distance of the digests of two texts.
+#[no_mangle]
+pub extern "C" fn saltcurtain_distance(
+    variant_a: u32,
+    text_a: &[u8],
+    variant_b: u32,
+    text_b: &[u8],
+) -> DistanceAnswer
+    ensures { λ r. ⌜ r ≡ textsDistance «variant_a» (now («text_a» .entry)) «variant_b» (now («text_b» .entry)) ⌝ }
+{
+    let number = compare::comparable(variant_a, variant_b);
+    if number != params::DONE {
+        return no_distance(number);
+    }
+    let first = parse::read_text(variant_a, text_a);
+    if first.number != params::DONE {
+        return no_distance(first.number);
+    }
+    let second = parse::read_text(variant_b, text_b);
+    if second.number != params::DONE {
+        return no_distance(second.number);
+    }
+    let a = first.digest;
+    let b = second.digest;
+    compare::distance(a, b)
+}
+
+// The digest of a text, for callers who compare it often.
+#[no_mangle]
+pub extern "C" fn saltcurtain_read(variant: u32, text: &[u8]) -> ReadAnswer
+    ensures { λ r. ⌜ r ≡ readOf variant (now (text .entry)) ⌝ }
+{
+    parse::read_text(variant, text)
+}
+
+// The distance of two digests that were read.
+#[no_mangle]
+pub extern "C" fn saltcurtain_distance_read(
+    a: Head,
+    x: &[u8; 64],
+    b: Head,
+    y: &[u8; 64],
+) -> DistanceAnswer
+    ensures { λ r. ⌜ r ≡ distanceOf (withBody a (now (x .entry))) (withBody b (now (y .entry))) ⌝ }
+{
+    compare::distance_lent(a, x, b, y)
 }

@@ -1,4 +1,4 @@
-// What the benchmark times by itself: the writer and the reader of a digest's text, which no C entry point has alone.
+// What the benchmark times by itself: the writer of a digest's text, which no C entry point has alone, and the reader.
 // They are for host/bench.sh and no part of the C interface.
 ghost use mathlib.Core.Path.{_≡_};
 ghost use Rattle.text.specs.Text.{Written, writeOf};

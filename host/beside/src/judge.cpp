@@ -1,4 +1,4 @@
-// Trend Micro's own library behind two C functions.
+// Trend Micro's own library behind three C functions.
 #include <cstring>
 #include <tlsh.h>
 
@@ -19,4 +19,13 @@ extern "C" int judge_rewrite(const char *from, char *text)
         return 0;
     hash.getHash(text, TLSH_STRING_BUFFER_LEN);
     return std::strlen(text) == TLSH_STRING_LEN;
+}
+
+// The distance of the digests of two texts, or -1 where one of them is not read.
+extern "C" int judge_distance(const char *one, const char *other)
+{
+    Tlsh a, b;
+    if (a.fromTlshStr(one) != 0 || b.fromTlshStr(other) != 0)
+        return -1;
+    return a.totalDiff(&b);
 }

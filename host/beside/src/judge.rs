@@ -15,6 +15,7 @@ mod linked {
     unsafe extern "C" {
         fn judge_digest(input: *const u8, length: u32, text: *mut c_char) -> i32;
         fn judge_rewrite(from: *const c_char, text: *mut c_char) -> i32;
+        fn judge_distance(one: *const c_char, other: *const c_char) -> i32;
     }
 
     /// Why it cannot be asked.
@@ -32,6 +33,13 @@ mod linked {
         assert_eq!(from[SIZE - 1], 0);
         // SAFETY: both have 70 characters and a zero.
         unsafe { judge_rewrite(from.as_ptr().cast(), text.as_mut_ptr().cast()) != 0 }
+    }
+
+    /// Its distance of two texts, which end in a zero.
+    pub fn distance(one: &[u8; SIZE], other: &[u8; SIZE]) -> Option<u32> {
+        assert_eq!((one[SIZE - 1], other[SIZE - 1]), (0, 0));
+        // SAFETY: both have 70 characters and a zero.
+        u32::try_from(unsafe { judge_distance(one.as_ptr().cast(), other.as_ptr().cast()) }).ok()
     }
 }
 
@@ -51,6 +59,11 @@ mod linked {
     pub fn rewrite(_: &[u8; SIZE], _: &mut [u8; SIZE]) -> bool {
         unreachable!()
     }
+
+    /// Never asked.
+    pub fn distance(_: &[u8; SIZE], _: &[u8; SIZE]) -> Option<u32> {
+        unreachable!()
+    }
 }
 
-pub use linked::{MISSING, digest, rewrite};
+pub use linked::{MISSING, digest, distance, rewrite};

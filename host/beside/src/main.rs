@@ -22,6 +22,7 @@ beside paths                    look for the shortest input at which the ratio p
 beside paths VARIANT CHARACTERS MANY MOST
                                 the same in one variant, in so many of so many characters, up to so many bytes
 beside store FILE               write the stored list of the Rust's answers
+beside store-distances FILE     write the stored list of the Rust's distances
 beside input KIND SEED LENGTH   the bytes of an input, to standard output
 
 --seed N      all random numbers come from it (20250101)
@@ -90,6 +91,11 @@ fn act() -> Result<ExitCode, String> {
         }
         ["store", file] => {
             let write = || store::write(&mut BufWriter::new(File::create(file)?));
+            write().map_err(|e| format!("{file}: {e}"))?;
+            Ok(ExitCode::SUCCESS)
+        }
+        ["store-distances", file] => {
+            let write = || store::write_distances(&mut BufWriter::new(File::create(file)?));
             write().map_err(|e| format!("{file}: {e}"))?;
             Ok(ExitCode::SUCCESS)
         }

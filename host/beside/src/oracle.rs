@@ -137,7 +137,7 @@ fn rewrite_by<T: FuzzyHashType>(text: &[u8], room: &mut [u8]) -> bool {
     T::from_str_bytes(text, Some(prefix)).is_ok_and(|digest| digest.store_into_str_bytes(room, prefix).is_ok())
 }
 
-/// A digest that was read: what is written when that is measured.
+/// A digest that was read: what is written and compared when that is measured.
 pub enum Held {
     /// With 48 buckets.
     Short(Short),
@@ -167,6 +167,33 @@ impl Held {
             Self::Long(digest) => digest.store_into_str_bytes(room, prefix).is_ok(),
         }
     }
+}
+
+impl Held {
+    /// The distance to another of its variant.
+    #[inline]
+    pub fn distance(&self, other: &Self) -> Option<u32> {
+        match (self, other) {
+            (Self::Short(one), Self::Short(other)) => Some(one.compare(other)),
+            (Self::Normal(one), Self::Normal(other)) => Some(one.compare(other)),
+            (Self::Long(one), Self::Long(other)) => Some(one.compare(other)),
+            _ => None,
+        }
+    }
+}
+
+/// Two texts with `T1` read and compared.
+pub fn distance(variant: Variant, one: &[u8], other: &[u8]) -> Option<u32> {
+    match variant {
+        Variant::Short => distance_by::<Short>(one, other),
+        Variant::Normal => distance_by::<Normal>(one, other),
+        Variant::Long => distance_by::<Long>(one, other),
+    }
+}
+
+fn distance_by<T: FuzzyHashType>(one: &[u8], other: &[u8]) -> Option<u32> {
+    let prefix = Some(HexStringPrefix::WithVersion);
+    Some(T::from_str_bytes(one, prefix).ok()?.compare(&T::from_str_bytes(other, prefix).ok()?))
 }
 
 /// A text with `T1` read, and the digest left unused: what is measured.

@@ -1,4 +1,5 @@
-//! Writes the stored list: a sample of the oracle's answers that a small program can repeat without the oracle.
+//! Writes the stored lists: samples of the oracle's answers, and of its distances, that can be repeated without the oracle.
+use beside::fields::Fields;
 use beside::oracle::{self, Fed};
 use beside::random::Random;
 use beside::rules::{Line, PATTERN, PIECE, Source};
@@ -122,4 +123,53 @@ pub fn write(to: &mut dyn Write) -> io::Result<()> {
 
     eprintln!("beside: {} lines of the Rust's answers, over {} bytes of input", list.lines, list.bytes);
     list.error.take().map_or(Ok(()), Err)
+}
+
+/// Writes the list of distances: variant, two texts, and the Rust's distance. It is the same in every run.
+pub fn write_distances(to: &mut dyn Write) -> io::Result<()> {
+    let random = &mut Random::new(2);
+    for variant in Variant::ALL {
+        let mut ask = |one: &Fields, other: &Fields| {
+            let (one, other) = (one.text(), other.text());
+            let distance = oracle::distance(variant, &one, &other).expect("texts that are read");
+            let [one, other] = [one, other].map(|text| String::from_utf8(text).expect("digits"));
+            writeln!(to, "{} {one} {other} {distance}", variant.number())
+        };
+        // The least and the greatest.
+        let (mut least, mut most) = (Fields { variant, bytes: [0; 67] }, Fields { variant, bytes: [255; 67] });
+        (least.bytes[1], most.bytes[1], most.bytes[2]) = (0, 128, 0x88);
+        ask(&least, &least)?;
+        ask(&least, &most)?;
+        ask(&most, &least)?;
+        // One code against another, at the first place and at the last.
+        for place in [0, variant.number() as usize - 1] {
+            for codes in 0..16 {
+                let mut one = Fields::random(variant, random);
+                one.set_code(place, codes % 4);
+                let mut other = one;
+                other.set_code(place, codes / 4);
+                ask(&one, &other)?;
+            }
+        }
+        // Checksum, length code and each ratio, around their circles.
+        for (field, step) in [(0, 1), (1, 1), (1, 2), (1, 127), (1, 128), (1, 129), (1, 254), (1, 255)]
+            .into_iter()
+            .chain([1, 2, 7, 8, 9, 14, 15].into_iter().flat_map(|step| [(2, step), (2, 16 * step)]))
+        {
+            let mut one = Fields::random(variant, random);
+            one.bytes[2] &= if step < 16 { 0xf0 } else { 0x0f };
+            let mut other = one;
+            other.bytes[field] = one.bytes[field].wrapping_add(step);
+            ask(&one, &other)?;
+        }
+        // Neighbours, and any two.
+        for _ in 0..12 {
+            let one = Fields::random(variant, random);
+            let mut other = one;
+            other.bytes[random.below((variant.text_len() - 2) / 2)] ^= 1 << random.below(8);
+            ask(&one, &other)?;
+            ask(&one, &Fields::random(variant, random))?;
+        }
+    }
+    Ok(())
 }

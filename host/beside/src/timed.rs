@@ -1,5 +1,4 @@
-//! The writer and the reader of a text by themselves, which no entry point has alone: the crate `timed`, linked where its archive
-//! is there.
+//! The writer and the reader of a text by themselves: the crate `timed`, linked where its archive is there.
 
 /// A digest's fields, as the port lays them out.
 #[repr(C)]

@@ -12,7 +12,7 @@
 use beside::inputs::{Input, Kind};
 use beside::random::Random;
 use beside::{judge, oracle, timed};
-use saltcurtain::{Variant, raw};
+use saltcurtain::{Digest, Options, Variant, raw};
 use std::cell::RefCell;
 use std::ffi::c_int;
 use std::hint::black_box;
@@ -161,6 +161,37 @@ fn rewrites(variant: Variant, text: &[u8]) {
     work(&name, size, sides);
 }
 
+/// Two digests compared: both sides are lent what was read.
+fn compares(variant: Variant, one: &[u8], other: &[u8]) {
+    let port = [one, other].map(|text| Digest::read(variant, text).expect("a good text"));
+    let rust = [one, other].map(|text| oracle::Held::new(variant, text).expect("a good text"));
+    let known = rust[0].distance(&rust[1]).expect("one variant");
+    let sides: Vec<Side> = vec![
+        Box::new(|| black_box(&port[0]).distance(black_box(&port[1])) == Ok(known)),
+        Box::new(|| black_box(&rust[0]).distance(black_box(&rust[1])) == Some(known)),
+    ];
+    work(&format!("distance-{}", variant.number()), one.len() + other.len(), sides);
+}
+
+/// Two texts read and compared.
+fn text_distances(variant: Variant, one: &[u8], other: &[u8]) {
+    let number = variant.number();
+    let known = oracle::distance(variant, one, other).expect("good texts");
+    let bare = [one, other].map(|text| {
+        let mut bare = [0; judge::SIZE];
+        bare[..text.len().min(72) - 2].copy_from_slice(&text[2..text.len().min(72)]);
+        bare
+    });
+    let mut sides: Vec<Side> = vec![
+        Box::new(|| raw::distance(number, black_box(one), number, black_box(other)).distance == known),
+        Box::new(|| oracle::distance(variant, black_box(one), black_box(other)) == Some(known)),
+    ];
+    if variant == Variant::Normal && judge::MISSING.is_none() {
+        sides.push(Box::new(|| judge::distance(black_box(&bare[0]), black_box(&bare[1])) == Some(known)));
+    }
+    work(&format!("text-distance-{number}"), one.len() + other.len(), sides);
+}
+
 fn run() {
     let one = |kind, length| [Input::new(kind, 7, length).bytes];
     let kinds = [("random", Kind::Noise), ("report", Kind::Report)];
@@ -184,6 +215,14 @@ fn run() {
     }
     for variant in Variant::ALL {
         texts(variant, &one(Kind::Report, 4096)[0]);
+    }
+    for variant in Variant::ALL {
+        let [first, second] = [7, 8].map(|seed| {
+            let input = Input::new(Kind::Report, seed, 4096).bytes;
+            saltcurtain::digest(variant, Options::new(), &input).expect("a digest of a report")
+        });
+        compares(variant, first.as_bytes(), second.as_bytes());
+        text_distances(variant, first.as_bytes(), second.as_bytes());
     }
 }
 

@@ -2,6 +2,7 @@
 use super::known::Known;
 use super::tally::Tally;
 use beside::inputs::Input;
+use beside::judge;
 use beside::oracle::{self, Answer, Prefix};
 use saltcurtain::{Variant, raw};
 use std::fmt::{Display, Write};
@@ -200,5 +201,81 @@ pub fn length_code(tally: &mut Tally, n: u32) {
     let number = raw::length_code(n, &mut out);
     tally.case(number, number == wanted && out == [after], || {
         format!("  call      length_code {n}\n  should    {wanted} {after:x?}\n  answered  {number} {out:x?}")
+    });
+}
+
+/// The distance of two texts by the definition: the text's fields, digit by digit.
+fn plain_distance(one: &[u8], other: &[u8]) -> u32 {
+    let digits = |text: &[u8]| -> Vec<u32> {
+        text[2..].iter().map(|&digit| char::from(digit).to_digit(16).expect("a digit")).collect()
+    };
+    let (one, other) = (digits(one), digits(other));
+    let around = |n: u32, x: u32, y: u32| x.abs_diff(y).min(n - x.abs_diff(y));
+    let length = around(256, one[2] + 16 * one[3], other[2] + 16 * other[3]);
+    let ratio = |place: usize| match around(16, one[place], other[place]) {
+        d @ 0..=1 => d,
+        d => 12 * (d - 1),
+    };
+    let codes = |x: u32, y: u32| match x.abs_diff(y) {
+        3 => 6,
+        d => d,
+    };
+    let body: u32 = one[6..].iter().zip(&other[6..]).map(|(x, y)| codes(x % 4, y % 4) + codes(x / 4, y / 4)).sum();
+    body + if length <= 1 { length } else { 12 * length } + ratio(4) + ratio(5) + u32::from(one[..2] != other[..2])
+}
+
+/// The distance of two texts by the port, in both orders and as digests that were read, beside the Rust's and the definition.
+pub fn distance(tally: &mut Tally, variant_a: u32, text_a: &[u8], variant_b: u32, text_b: &[u8]) {
+    let wanted = |tally: &mut Tally, variant_a, text_a, variant_b, text_b| {
+        let (Some(one), Some(other)) = (Variant::from_number(variant_a), Variant::from_number(variant_b)) else {
+            tally.known(Known::UnknownVariant);
+            return raw::Distance { number: 6, distance: 0 };
+        };
+        if one != other {
+            tally.known(Known::UnlikeDigests);
+            return raw::Distance { number: 12, distance: 0 };
+        }
+        let number = narrow(tally, one, text_a).and(narrow(tally, other, text_b)).err().unwrap_or(0);
+        let distance = match number {
+            0 => oracle::distance(one, text_a, text_b).expect("texts that are read"),
+            _ => 0,
+        };
+        raw::Distance { number, distance }
+    };
+    let should = wanted(tally, variant_a, text_a, variant_b, text_b);
+    let turned = wanted(tally, variant_b, text_b, variant_a, text_a);
+    let answer = raw::distance(variant_a, text_a, variant_b, text_b);
+    let back = raw::distance(variant_b, text_b, variant_a, text_a);
+    let mut same = answer == should && back == turned;
+    let (one, other) = (raw::read(variant_a, text_a), raw::read(variant_b, text_b));
+    if one.number == 0 && other.number == 0 {
+        same &= raw::distance_read(&one.digest, &other.digest) == should;
+        same &= raw::distance_read(&other.digest, &one.digest) == turned;
+    }
+    if should.number == 0 {
+        same &= should.distance == plain_distance(text_a, text_b) && turned == should;
+        same &= (should.distance == 0) == (text_a == text_b);
+    }
+    tally.case(answer.number, same, || {
+        let (one, other) = (String::from_utf8_lossy(text_a), String::from_utf8_lossy(text_b));
+        format!(
+            "  call      distance {variant_a} {one:?} {variant_b} {other:?}\n  should    {should:?}\n  answered  {answer:?}, \
+             and in the other order {back:?}"
+        )
+    });
+}
+
+/// The distance of two normal texts by the port, beside the second judge's.
+pub fn second_distance(tally: &mut Tally, text_a: &[u8], text_b: &[u8]) {
+    let [one, other] = [text_a, text_b].map(|text| {
+        let mut bare = [0; judge::SIZE];
+        bare[..judge::SIZE - 1].copy_from_slice(&text[2..]);
+        bare
+    });
+    let theirs = judge::distance(&one, &other);
+    let ours = raw::distance(128, text_a, 128, text_b);
+    tally.case(ours.number, ours.number == 0 && theirs == Some(ours.distance), || {
+        let (one, other) = (String::from_utf8_lossy(text_a), String::from_utf8_lossy(text_b));
+        format!("  call      distance {one:?} {other:?}\n  the C++   {theirs:?}\n  the port  {ours:?}")
     });
 }

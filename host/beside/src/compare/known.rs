@@ -24,10 +24,12 @@ pub enum Known {
     RoomBeforeText,
     /// The default ratios are floating.
     DefaultRatios,
+    /// Digests of different variants.
+    UnlikeDigests,
 }
 
 /// All of them, each with its number in docs/DIFFERENCES.md, where it has one, and with what is seen.
-pub const LIST: [(Known, Option<u32>, &str); 10] = [
+pub const LIST: [(Known, Option<u32>, &str); 11] = [
     (
         Known::RoomFirst,
         Some(1),
@@ -53,6 +55,11 @@ pub const LIST: [(Known, Option<u32>, &str); 10] = [
         Known::DefaultRatios,
         None,
         "the Rust's comment says that ratios are whole-number by default: its code and the port take floating ones",
+    ),
+    (
+        Known::UnlikeDigests,
+        Some(12),
+        "digests of different variants: the port gives 12, the Rust's types have no such comparison",
     ),
 ];
 

@@ -115,7 +115,7 @@ pub fn all(plan: &Plan) -> ExitCode {
     for (section, tally) in chosen.iter().zip(tallies) {
         println!("{:<8} {}", section.name, section.about);
         match judge::MISSING {
-            Some(why) if section.name == sections::SECOND => {
+            Some(why) if [sections::SECOND, sections::SECOND_DISTANCE].contains(&section.name) => {
                 println!("         SKIPPED: {why}");
                 skipped = "; the C++ was SKIPPED";
             }

@@ -1,4 +1,5 @@
 //! The kinds of cases. Each section is cut into jobs; what a job does depends on the seed, the section and its number alone.
+mod distances;
 mod lengths;
 mod numbers;
 mod paths;
@@ -24,11 +25,14 @@ pub struct Section {
     pub run: fn(u64, &mut Random, &mut Tally),
 }
 
-/// The name of the section that asks the second judge.
+/// The name of the section that asks the second judge for digests.
 pub const SECOND: &str = "c++";
 
+/// The name of the section that asks it for distances.
+pub const SECOND_DISTANCE: &str = "c++apart";
+
 /// All sections, those with the longest jobs first.
-pub const SECTIONS: [Section; 12] = [
+pub const SECTIONS: [Section; 14] = [
     Section {
         name: "wrap",
         about: "counters so large that 100 q passes 2^32, and that both ratio paths differ",
@@ -80,6 +84,18 @@ pub const SECTIONS: [Section; 12] = [
     },
     Section { name: "ratios", about: "ratio records to the bit", jobs: numbers::ratios_jobs, run: numbers::ratios },
     Section { name: "codes", about: "length codes around every top", jobs: numbers::codes_jobs, run: numbers::codes },
+    Section {
+        name: "distance",
+        about: "distances of equal, near and far digests, all pairs of codes, length codes and ratios, and refusals",
+        jobs: distances::jobs,
+        run: distances::run,
+    },
+    Section {
+        name: SECOND_DISTANCE,
+        about: "distances of normal digests beside Trend Micro's C++",
+        jobs: distances::second_jobs,
+        run: distances::second,
+    },
     Section {
         name: SECOND,
         about: "normal digests of 256 bytes and more beside Trend Micro's C++",
