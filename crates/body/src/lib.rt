@@ -6,6 +6,8 @@
 // are the code of counter 0. A body is 64 bytes whatever the variant; those after the used ones are 0.
 //
 // The number of used counters is the length of what is lent, and nothing below names a variant.
+#![tactic(auto)]
+
 ghost use Rattle.std.specs.Prelude.{◌≡◌, ◌+◌, ◌*◌, ◌≤◌, length};
 ghost use Rattle.body.specs.Body.{code_of, byte_of, bytes_of, body_of};
 

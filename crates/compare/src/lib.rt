@@ -3,6 +3,8 @@
 // Each pair of fields has its cost, and the distance is their sum. The bodies are compared eight bytes at a time: two words of
 // eight bytes give a word that has the cost of each pair of bytes in their place (`word_cost`), such words are added byte by byte
 // without a carry, and the bytes of the last one are added up (`total`).
+#![tactic(auto)]
+
 ghost use Rattle.std.specs.Prelude.{◌≡◌, true, cond, not, ◌&&◌, ◌+◌, ◌-◌, ◌*◌, ◌≤◌, ◌<◌, min};
 ghost use Rattle.params.specs.Variants.{known};
 ghost use Rattle.params.specs.Answers.{unknown_variant, unlike_digests};
@@ -14,7 +16,7 @@ use hash::Digest;
 
 // The number of the answer, and the distance; 0 beside a refusal.
 #[repr(C)]
-#[derive(Drop)]
+#[derive(Clone, Copy)]
 pub struct DistanceAnswer {
     pub number: u32,
     pub distance: u32,
@@ -179,7 +181,7 @@ pub fn comparable(v: u32, w: u32) -> u32
 
 // A digest without its body.
 #[repr(C)]
-#[derive(Drop)]
+#[derive(Clone, Copy)]
 pub struct Head {
     pub variant: u32,
     pub checksum: u8,

@@ -3,6 +3,8 @@
 // The first four bytes of an input have no four before them. Each later byte looks back at four: it moves the checksum on and adds one
 // to six counters, chosen by six mappings of it and of two of those four. Checksum and four bytes stand in a window, a small struct of
 // scalars. The loop here takes the bytes one by one, as the definition does; `leap` has a faster one to the same end.
+#![tactic(auto)]
+
 ghost use Rattle.std.specs.Prelude.{◌≡◌, [], ◌∷◌};
 ghost use Rattle.pearson.specs.Table.{table};
 ghost use Rattle.pearson.specs.Mapping.{bucket, lasts};
@@ -10,7 +12,7 @@ ghost use Rattle.counting.specs.Count.{bump_by, bump};
 ghost use Rattle.counting.specs.Window.{hit, Ran};
 
 // What a loop carries beside the counters: the checksum, and the tail byte by byte, b3 the nearest.
-#[derive(Drop)]
+#[derive(Clone, Copy)]
 pub struct Window {
     pub checksum: u8,
     pub b0: u8,

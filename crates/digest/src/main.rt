@@ -2,6 +2,8 @@
 //
 // The input is read in blocks of at most 64 KiB to its end. Proved is that the state is the one that all bytes of all reads lead to,
 // in their order, where the last read met the end or failed, and that the answer is the one that finalizing gives for that state.
+#![tactic(auto)]
+
 ghost use Rattle.std.specs.Prelude.{◌≡◌, ◌+◌, ◌%◌, ◌^◌, replicate};
 ghost use Rattle.text.specs.Text.{Written};
 ghost use Rattle.finalize.specs.Final.{finalized};
@@ -21,7 +23,7 @@ const ERRORS: i32 = 2;
 const BLOCKS: u64 = 4_294_967_296;
 
 // What one read, or all of them, came to, by the kinds of `reading`, and the state.
-#[derive(Drop)]
+#[derive(Clone, Copy)]
 struct Turn {
     pub kind: u32,
     pub state: State,
@@ -74,7 +76,7 @@ fn all() -> Turn
 }
 
 // The number of the answer, and the text, all zero beside a refusal.
-#[derive(Drop)]
+#[derive(Clone, Copy)]
 struct Answer {
     pub number: u32,
     pub text: [u8; 72],

@@ -3,6 +3,8 @@
 // The steps stand in the order in which they refuse: 10 for an unknown option bit, 6 for another variant, 19 for a state that no
 // bytes reach; then the length (1, 2), its code (5), the third quartile (3), and the count of counters that are not 0 (4). A dead
 // file fails both of the last two, and the third quartile speaks first.
+#![tactic(auto)]
+
 ghost use Rattle.std.specs.Prelude.{◌≡◌, true, ◌≤◌, length, take};
 ghost use Rattle.params.specs.Variants.{known};
 ghost use Rattle.qratios.specs.Ratios.{ordered};
@@ -15,7 +17,7 @@ use options::Options;
 use quartile::Quartiles;
 
 // The number of the answer, and the digest: all zero beside a refusal.
-#[derive(Drop)]
+#[derive(Clone, Copy)]
 pub struct Finalized {
     pub number: u32,
     pub digest: Digest,

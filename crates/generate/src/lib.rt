@@ -11,6 +11,8 @@
 //
 // Two loops count, to the same end. The plain one stands in `counting`: it looks each counter up and adds one to it. The fast one
 // stands in `leap`. It adds to the counters in the end alone, which has its price, so a few bytes go through the plain loop.
+#![tactic(auto)]
+
 ghost use Rattle.std.specs.Prelude.{◌≡◌, false, ◌+◌, ◌≤◌, min, length};
 ghost use Rattle.std.proofs.lemmas.List.Edits.{sets};
 ghost use Rattle.counting.specs.Window.{Ran};
@@ -21,7 +23,7 @@ ghost use Rattle.generate.specs.Parts.{CutsOf, Opened, Fours};
 use counting::Window;
 
 // The counters stand first: the order of the fields decides how fast a copy is read.
-#[derive(Drop)]
+#[derive(Clone, Copy)]
 pub struct State {
     pub counters: [u32; 256],
     pub variant: u32,
@@ -32,14 +34,14 @@ pub struct State {
 }
 
 // The number of the answer, and a state.
-#[derive(Drop)]
+#[derive(Clone, Copy)]
 pub struct StateAnswer {
     pub number: u32,
     pub state: State,
 }
 
 // The processed length, or that it has reached 2^32, or one of the two refusals.
-#[derive(Drop)]
+#[derive(Clone, Copy)]
 pub enum Processed {
     Known(u32),
     Unknown,
@@ -48,7 +50,7 @@ pub enum Processed {
 }
 
 // The bytes before `first` fill the tail, those from there to `last` are counted, and the rest comes past the stop.
-#[derive(Drop)]
+#[derive(Clone, Copy)]
 struct Cuts {
     pub first: usize,
     pub last: usize,

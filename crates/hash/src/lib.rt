@@ -2,13 +2,15 @@
 //
 // A digest is the checksum, the code of the length's class, the two ratios of the quartiles and the body, beside the variant that
 // it is of. The body uses the first 12, 32 or 64 of its 64 bytes.
+#![tactic(auto)]
+
 ghost use Rattle.std.specs.Prelude.{◌≡◌, ◌&&◌, ◌≤◌};
 ghost use Rattle.params.specs.Variants.{known};
 ghost use Rattle.hash.specs.Digest.{zero_digest, first_equal, same_of};
 
 // The body stands first, so that a copy of it lies on a word's bounds. The ratio of q1 is in the low four bits of `ratios`.
 #[repr(C)]
-#[derive(Drop)]
+#[derive(Clone, Copy)]
 pub struct Digest {
     pub body: [u8; 64],
     pub variant: u32,
@@ -18,7 +20,7 @@ pub struct Digest {
 }
 
 // The number of the answer, and whether two digests are the same.
-#[derive(Drop)]
+#[derive(Clone, Copy)]
 pub struct SameAnswer {
     pub number: u32,
     pub same: bool,

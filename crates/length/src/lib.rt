@@ -3,6 +3,8 @@
 // A digest carries the length of its input as one byte, a class of a table of 170 top lengths. The tops grow by a half up to
 // 656, by three tenths up to 3,171 and then by about a tenth, so that the last, 4,224,281,216, is near 2^32. The code of a
 // length is the first one whose top is not below it.
+#![tactic(auto)]
+
 ghost use Rattle.std.specs.Prelude.{◌≡◌};
 ghost use Rattle.length.specs.Code.{coded};
 ghost use Rattle.length.specs.Limits.{limits_of};
@@ -28,7 +30,7 @@ const TOP_VALUE_BY_ENCODING: [u32; 170] = [
 ];
 
 // The number of the answer, and the code, 0 beside a refusal.
-#[derive(Drop)]
+#[derive(Clone, Copy)]
 pub struct Coded {
     pub number: u32,
     pub code: u8,
@@ -59,7 +61,7 @@ pub fn length_code(n: u32) -> Coded
 }
 
 // The number of the answer, and the shortest length in either mode and the longest, 0 beside a refusal.
-#[derive(Drop)]
+#[derive(Clone, Copy)]
 pub struct Limits {
     pub number: u32,
     pub minimum: u32,

@@ -5,12 +5,14 @@
 // empty, while the quarter option lifts both.
 //
 // A setter by value takes a record and gives back a new one. A setter of a lent record changes one field where it lies.
+#![tactic(auto)]
+
 ghost use Rattle.std.specs.Prelude.{◌≡◌, false};
 ghost use Rattle.options.specs.Options.{clear, chosen};
 ghost use Rattle.options.specs.Setters.{with_conservative, with_integer, with_small, with_half, with_quarter};
 
 #[repr(C)]
-#[derive(Drop)]
+#[derive(Clone, Copy)]
 pub struct Options {
     pub conservative: bool, // the longer minimum lengths (`length_processing_mode`)
     pub integer: bool, // the ratios by whole numbers (`pure_integer_qratio_computation`)
@@ -20,7 +22,7 @@ pub struct Options {
 }
 
 // The number of the answer, and the options: all clear beside a refusal.
-#[derive(Drop)]
+#[derive(Clone, Copy)]
 pub struct Chosen {
     pub number: u32,
     pub options: Options,

@@ -1,11 +1,11 @@
 -- The contracts of `params` leave one answer each.
 -- Assumes nothing.
 use Rattle.params.proofs.One.{OneAnswer, one_answer}
-use Rattle.params.specs.contracts.is_known as is_Known
+use Rattle.params.specs.contracts.is_known as is_known
 use Rattle.params.specs.contracts.smaller as smaller
 
-one_is_known : OneAnswer is_Known.ended (λ M. is_Known.clauses)
+one_is_known : OneAnswer is_known.ended (λ M 𝓤. is_known.clauses)
 one_is_known M 𝓤 𝓛 at_mem run κs a g h z y e f = one_answer 𝓤 _ z y
 
-one_smaller : OneAnswer smaller.ended (λ M. smaller.clauses)
+one_smaller : OneAnswer smaller.ended (λ M 𝓤. smaller.clauses)
 one_smaller M 𝓤 𝓛 at_mem run κs a g h z y e f = one_answer 𝓤 _ z y

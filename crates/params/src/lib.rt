@@ -1,4 +1,6 @@
 // The variants, and the numbers of the answers (params.rs, errors.rs).
+#![tactic(auto)]
+
 ghost use Rattle.std.specs.Prelude.{◌≡◌, min};
 ghost use Rattle.params.specs.Variants.{known};
 
@@ -39,6 +41,7 @@ pub const UNLIKE_DIGESTS: u32 = 12;
 pub const UNREACHED_STATE: u32 = 19;
 
 // Whether a number is one of the three variants.
+#[tactic(auto, unfolding(crate::specs::Variants::known))]
 pub fn is_known(variant: u32) -> bool
     ensures { result ≡ known variant }
 {

@@ -2,6 +2,8 @@
 //
 // The reader takes what the writer writes and no other form. It tests the size, splits `T1` off, and what is left is one
 // function's work (`read_digits`), in which `is_digit` alone judges a character.
+#![tactic(auto)]
+
 ghost use Rattle.std.specs.Prelude.{◌≡◌, true, ◌+◌, ◌*◌, ◌≤◌, ◌<◌, length};
 ghost use Rattle.std.proofs.lemmas.List.Edits.{sets};
 ghost use Rattle.parse.specs.Reading.{is_digit, value_of, all_digits, byte_at, bytes_from, body_from};
@@ -11,7 +13,7 @@ use hash::Digest;
 
 // The number of the answer, and the digest that was read; all zero beside a refusal.
 #[repr(C)]
-#[derive(Drop)]
+#[derive(Clone, Copy)]
 pub struct ReadAnswer {
     pub number: u32,
     pub digest: Digest,

@@ -2,6 +2,8 @@
 //
 // The floating path is that of the older TLSH programs: 100 * q in 32 bits, where it may roll over, and then f32 numbers. Rust's `as f32`
 // and `as u32` may lose something, so the port works both out: a conversion that rounds once, and a truncation that reads the bits.
+#![tactic(auto)]
+
 ghost use Rattle.std.specs.Prelude.{◌≡◌, ◌%◌, ◌<◌, true, to_bits};
 ghost use Rattle.std.specs.Float.{binary32};
 ghost use Rattle.qratios.specs.Single.{single, whole, from_bits};
@@ -10,7 +12,7 @@ ghost use Rattle.qratios.specs.Ratios.{float, record_of, ratios_of, byte_answere
 ghost use Rattle.qratios.specs.Ratios as R;
 
 // The two quotients of the floating path, and their whole parts before mod 16.
-#[derive(Drop)]
+#[derive(Clone, Copy)]
 pub struct Ratios {
     pub quotient1: f32,
     pub quotient2: f32,
@@ -19,14 +21,14 @@ pub struct Ratios {
 }
 
 // A number of the table of answers, and the ratio record: all zero beside a refusal.
-#[derive(Drop)]
+#[derive(Clone, Copy)]
 pub struct RatiosAnswer {
     pub number: u32,
     pub ratios: Ratios,
 }
 
 // A number of the table of answers, and both ratios in one byte, q1's in the low four bits: 0 beside a refusal.
-#[derive(Drop)]
+#[derive(Clone, Copy)]
 pub struct ByteAnswer {
     pub number: u32,
     pub byte: u8,

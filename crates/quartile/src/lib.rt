@@ -7,6 +7,8 @@
 //
 // A probe counts in u32, the width of the counters: then as many are counted at once as are compared. A slice may have more elements
 // than a u32 can count, so it is counted in blocks. The counters of every variant are one block.
+#![tactic(auto)]
+
 ghost use Rattle.std.specs.Prelude.{◌≡◌, ◌≤◌, ◌-◌, min, length, take};
 ghost use Rattle.quartile.specs.Counts.{count_le, non_zero, largest};
 ghost use Rattle.quartile.specs.Quartile.{place, quartiles, answered};
@@ -15,7 +17,7 @@ ghost use Rattle.quartile.specs.Quartile.{place, quartiles, answered};
 const BLOCK: usize = 4294967295;
 
 // The three quartiles.
-#[derive(Drop)]
+#[derive(Clone, Copy)]
 pub struct Quartiles {
     pub q1: u32,
     pub q2: u32,
@@ -23,7 +25,7 @@ pub struct Quartiles {
 }
 
 // The number of the answer, and the quartiles, all 0 beside a refusal.
-#[derive(Drop)]
+#[derive(Clone, Copy)]
 pub struct QuartilesAnswer {
     pub number: u32,
     pub quartiles: Quartiles,

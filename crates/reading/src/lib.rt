@@ -1,4 +1,6 @@
 // Reading in blocks: the one place where bytes come in.
+#![tactic(auto)]
+
 ghost use Rattle.std.specs.Prelude.{◌≡◌, ◌+◌, ◌%◌, ◌^◌};
 ghost use Rattle.reading.specs.Reading.{Read};
 
@@ -10,7 +12,7 @@ pub const END: u32 = 1;
 pub const FAILED: u32 = 2;
 
 // What a read came to, and how many bytes it put at the front of the block: 0 but for `MORE`.
-#[derive(Drop)]
+#[derive(Clone, Copy)]
 pub struct Got {
     pub kind: u32,
     pub count: usize,

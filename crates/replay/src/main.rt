@@ -3,6 +3,8 @@
 //
 // What is written is a line for each of the first ten lines that differ or are malformed, and a last line that counts all. Proved is
 // that the counts are those of all bytes of all reads, in their order, each line judged as `replay_verdict::judge` does.
+#![tactic(auto)]
+
 ghost use Rattle.std.specs.Prelude.{◌≡◌, ◌+◌, ◌%◌, ◌^◌, [], ◌∷◌};
 ghost use Rattle.replay.specs.Lines.{Goes, Turned, Listed};
 
@@ -16,7 +18,7 @@ const BLOCKS: u64 = 16_777_216;
 const SHOWN: u64 = 10;
 
 // The lines so far, those of them that were not the same, and the characters of the line that is being read.
-#[derive(Drop)]
+#[derive(Clone, Copy)]
 struct Tally {
     pub lines: u64,
     pub wrong: u64,
@@ -24,7 +26,7 @@ struct Tally {
 }
 
 // What one read, or all of them, came to, by the kinds of `reading`, and the tally.
-#[derive(Drop)]
+#[derive(Clone, Copy)]
 struct Turn {
     pub kind: u32,
     pub tally: Tally,

@@ -2,6 +2,8 @@
 //
 // An input is made block by block where it is fed, so that it needs no more room than a piece. The state after it is that of the
 // bytes, whatever the pieces: a number that is no size of a piece stands for the largest.
+#![tactic(auto)]
+
 ghost use Rattle.std.specs.Prelude.{◌≡◌, ◌++◌, ◌+◌, ◌%◌, ◌≤◌, ◌<◌, min, length, drop};
 ghost use Rattle.generate.specs.Answer.{updated};
 ghost use Rattle.replay_inputs.specs.Input.{drawn, drawn_times, byte_by, input_bytes};
@@ -12,7 +14,7 @@ use generate::State;
 const MOST: usize = 65_536;
 
 // An input: its kind, its seed, 0 for a pattern, and its length.
-#[derive(Drop)]
+#[derive(Clone, Copy)]
 pub struct Input {
     pub kind: u32,
     pub seed: u32,
@@ -73,7 +75,7 @@ fn fill(block: &mut [u8], m: usize, n: Input, digits: &[u8], i: usize, x: u32) -
 }
 
 // A state, and x.
-#[derive(Drop)]
+#[derive(Clone, Copy)]
 struct Fed {
     pub state: State,
     pub x: u32,

@@ -1,5 +1,7 @@
 // Patterns of the stored list (host/README.md, The stored list): one to 64 bytes, two hexadecimal digits for each, and the byte that
 // stands at a place where they come again and again.
+#![tactic(auto)]
+
 ghost use Rattle.std.specs.Prelude.{◌≡◌, ◌%◌, ◌<◌};
 ghost use Rattle.replay_pattern.specs.Pattern.{is_pattern, hex_of, repeated};
 

@@ -2,6 +2,8 @@
 //
 // A line that breaks a rule of the list asks nothing: the answer's flag says so, and what stands beside it is the numbers that were
 // read, 0 for each that was not.
+#![tactic(auto)]
+
 ghost use Rattle.std.specs.Prelude.{◌≡◌};
 ghost use Rattle.replay_question.specs.Question.{number_after, seed_of, input_of, question_of};
 
@@ -9,14 +11,14 @@ use replay_inputs::Input;
 use replay_words::Number;
 
 // An input, and whether the line asks for it.
-#[derive(Drop)]
+#[derive(Clone, Copy)]
 pub struct Asked {
     pub good: bool,
     pub input: Input,
 }
 
 // What a line asks, and whether it asks anything.
-#[derive(Drop)]
+#[derive(Clone, Copy)]
 pub struct Question {
     pub good: bool,
     pub variant: u32,

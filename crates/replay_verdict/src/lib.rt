@@ -2,6 +2,8 @@
 //
 // A line is judged as a whole: the input is made by its rule and fed in pieces, the state is finalized, and the text, or `refused` and
 // the number, is held to the line's last words character by character.
+#![tactic(auto)]
+
 ghost use Rattle.std.specs.Prelude.{◌≡◌, true, ◌≤◌};
 ghost use Rattle.generate.specs.Answer.{new_answer, updated};
 ghost use Rattle.params.specs.Variants.{known};

@@ -2,6 +2,8 @@
 //
 // A word ends at a space or at the line's end. A number is one to ten decimal digits without a leading zero, and at most so great as
 // its reader says; where it is not, the answer says so by its flag.
+#![tactic(auto)]
+
 ghost use Rattle.std.specs.Prelude.{◌≡◌, true, ◌-◌, ◌≤◌, length, drop};
 ghost use Rattle.replay_words.specs.Words.{word_size, after_words, rest_at, into, first_word, same_text};
 ghost use Rattle.replay_words.specs.Words.{is_decimal, all_decimal, decimal_after, is_numeral, number_of};
@@ -146,7 +148,7 @@ fn decimal(s: &[u8]) -> u64
 }
 
 // A number that was read; 0 where it is not good.
-#[derive(Drop)]
+#[derive(Clone, Copy)]
 pub struct Number {
     pub good: bool,
     pub value: u32,

@@ -2,6 +2,8 @@
 //
 // A slice is a pointer and a length. The answer is a number: 0, or one refusal, or a struct that begins with it and is zero after a
 // refusal. A refusal writes nothing.
+#![tactic(auto)]
+
 ghost use Rattle.std.specs.Prelude.{◌≡◌, ◌<◌, min};
 ghost use Rattle.generate.specs.Answer.{updated};
 ghost use Rattle.text.specs.Text.{Written};

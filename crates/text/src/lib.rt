@@ -3,6 +3,8 @@
 // It is `T1` and then two digits for each byte, 0 to 9 and A to F. The low digit of the checksum, of the length code and of the
 // ratios comes first, and of the ratios that is the digit of q1. The body is written as the one large number that it is, so each
 // byte has its high digit first. The text has the used bytes of the body alone: 32, 72 or 136 characters.
+#![tactic(auto)]
+
 ghost use Rattle.std.specs.Prelude.{◌≡◌, true, cond, ◌∷◌, [], ◌+◌, ◌*◌, ◌/◌, ◌%◌, ◌≤◌, ◌<◌, ltb, length, take};
 ghost use Rattle.std.proofs.lemmas.List.Edits.{sets};
 ghost use Rattle.params.specs.Variants.{known};
@@ -13,14 +15,14 @@ ghost use Rattle.text.specs.Apart.{rows_of, in_turn};
 use hash::Digest;
 
 // The number of the answer, and the size of a text, 0 beside a refusal.
-#[derive(Drop)]
+#[derive(Clone, Copy)]
 pub struct SizeAnswer {
     pub number: u32,
     pub size: usize,
 }
 
 // The digits of a row of bytes: the high ones, and the low ones; 0 after them.
-#[derive(Drop)]
+#[derive(Clone, Copy)]
 struct Rows {
     high: [u8; 64],
     low: [u8; 64],

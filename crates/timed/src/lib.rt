@@ -1,5 +1,7 @@
 // What the benchmark times by itself: the writer of a digest's text, which no C entry point has alone, and the reader.
 // They are for host/bench.sh and no part of the C interface.
+#![tactic(auto)]
+
 ghost use Rattle.std.specs.Prelude.{◌≡◌};
 ghost use Rattle.text.specs.Text.{Written, write_of};
 ghost use Rattle.parse.specs.Reading.{read_of};

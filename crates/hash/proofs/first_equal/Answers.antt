@@ -1,0 +1,15 @@
+-- `hash::first_equal` meets its contract. The loop compares one byte after the other.
+-- Assumes nothing.
+use Prim.Native.Nat.{◌-◌}
+use Rattle.hash.proofs.Sameness.{Compared, compared_none, compared_more, compared_all}
+use borrow.Author.Rules.{rules}
+use Rattle.hash.proofs.first_equal.Goals as goal
+
+pub loop-i-init : goal.loop-i-init
+loop-i-init c = search compared_none
+
+pub loop-i-preserved : goal.loop-i-preserved
+loop-i-preserved c = search compared_more
+
+pub returns : goal.returns
+returns c = search compared_all

@@ -1,0 +1,15 @@
+-- `parse::take_block` meets its contract. The loop stores one byte after the other.
+-- Assumes nothing.
+use Prim.Native.Nat.{◌-◌}
+use Rattle.parse.proofs.Reading.{Taken, taken_none, taken_more, taken_all}
+use borrow.Author.Rules.{rules}
+use Rattle.parse.proofs.take_block.Goals as goal
+
+pub loop-j-init : goal.loop-j-init
+loop-j-init c = search taken_none
+
+pub loop-j-preserved : goal.loop-j-preserved
+loop-j-preserved c = search taken_more
+
+pub returns : goal.returns
+returns c = search taken_all

@@ -1,0 +1,15 @@
+-- `text::rows_of` meets its contract. The loop stores the two digits of one byte after the other.
+-- Assumes nothing.
+use Prim.Native.Nat.{◌-◌}
+use Rattle.text.proofs.Apart.{Rowed, rowed_none, rowed_more, rowed_all}
+use borrow.Author.Rules.{rules}
+use Rattle.text.proofs.rows_of.Goals as goal
+
+pub loop-i-init : goal.loop-i-init
+loop-i-init c = search rowed_none
+
+pub loop-i-preserved : goal.loop-i-preserved
+loop-i-preserved c = search (rowed_more, rules)
+
+pub returns : goal.returns
+returns c = search (rowed_all, rules)
