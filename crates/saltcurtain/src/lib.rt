@@ -48,13 +48,7 @@ fn finish(s: State, options: u32, destination: &mut [u8]) -> u32
 }
 
 // The text of the input's digest.
-#[unsafe(no_mangle)]
-pub extern "C" fn saltcurtain_digest(
-    variant: u32,
-    options: u32,
-    input: &[u8],
-    destination: &mut [u8],
-) -> u32
+pub fn saltcurtain_digest(variant: u32, options: u32, input: &[u8], destination: &mut [u8]) -> u32
     ensures { Written result destination.new (digested variant options input.now destination.old) }
 {
     let number = judge(variant, options, destination.len());
@@ -98,8 +92,7 @@ fn feed_cut(s: State, piece: usize, input: &[u8]) -> State
 }
 
 // The text of the input's digest, the input fed in pieces: the same answer whatever their size.
-#[unsafe(no_mangle)]
-pub extern "C" fn saltcurtain_digest_pieces(
+pub fn saltcurtain_digest_pieces(
     variant: u32,
     options: u32,
     piece: usize,
@@ -119,8 +112,7 @@ pub extern "C" fn saltcurtain_digest_pieces(
 }
 
 // A text read, and written again.
-#[unsafe(no_mangle)]
-pub extern "C" fn saltcurtain_rewrite(variant: u32, text: &[u8], destination: &mut [u8]) -> u32
+pub fn saltcurtain_rewrite(variant: u32, text: &[u8], destination: &mut [u8]) -> u32
     ensures { Written result destination.new (rewritten variant text.now destination.old) }
 {
     let text_size = text::text_size(variant);
@@ -139,8 +131,7 @@ pub extern "C" fn saltcurtain_rewrite(variant: u32, text: &[u8], destination: &m
 }
 
 // The bits of both quotients of the floating path, then their whole parts.
-#[unsafe(no_mangle)]
-pub extern "C" fn saltcurtain_ratios(q1: u32, q2: u32, q3: u32, out: &mut [u32; 4]) -> u32
+pub fn saltcurtain_ratios(q1: u32, q2: u32, q3: u32, out: &mut [u32; 4]) -> u32
     ensures { Written result out.new (ratios_written q1 q2 q3 out.old) }
 {
     let a = qratios::quartile_ratios(q1, q2, q3);
@@ -158,8 +149,7 @@ pub extern "C" fn saltcurtain_ratios(q1: u32, q2: u32, q3: u32, out: &mut [u32; 
 }
 
 // The code of a length.
-#[unsafe(no_mangle)]
-pub extern "C" fn saltcurtain_length_code(n: u32, out: &mut [u32; 1]) -> u32
+pub fn saltcurtain_length_code(n: u32, out: &mut [u32; 1]) -> u32
     ensures { Written result out.new (code_written n out.old) }
 {
     let c = length::length_code(n);
@@ -182,8 +172,7 @@ fn no_distance(number: u32) -> DistanceAnswer
 }
 
 // The distance of the digests of two texts.
-#[unsafe(no_mangle)]
-pub extern "C" fn saltcurtain_distance(
+pub fn saltcurtain_distance(
     variant_a: u32,
     text_a: &[u8],
     variant_b: u32,
@@ -209,21 +198,14 @@ pub extern "C" fn saltcurtain_distance(
 }
 
 // The digest of a text, for callers who compare it often.
-#[unsafe(no_mangle)]
-pub extern "C" fn saltcurtain_read(variant: u32, text: &[u8]) -> ReadAnswer
+pub fn saltcurtain_read(variant: u32, text: &[u8]) -> ReadAnswer
     ensures { result ≡ read_of variant text.now }
 {
     parse::read_text(variant, text)
 }
 
 // The distance of two digests that were read.
-#[unsafe(no_mangle)]
-pub extern "C" fn saltcurtain_distance_read(
-    a: Head,
-    x: &[u8; 64],
-    b: Head,
-    y: &[u8; 64],
-) -> DistanceAnswer
+pub fn saltcurtain_distance_read(a: Head, x: &[u8; 64], b: Head, y: &[u8; 64]) -> DistanceAnswer
     ensures { result ≡ distance_of (with_body a x.now) (with_body b y.now) }
 {
     compare::distance_lent(a, x, b, y)

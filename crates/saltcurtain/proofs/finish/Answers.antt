@@ -1,0 +1,11 @@
+-- `saltcurtain::finish` meets its contract.
+-- Assumes nothing.
+use Rattle.saltcurtain.proofs.Laws.{given_refused, given_done}
+use borrow.Author.Rules.{rules}
+use Rattle.saltcurtain.proofs.finish.Goals as goal
+
+pub returns-then-f-ne-DONE : goal.returns-then-f-ne-DONE
+returns-then-f-ne-DONE c = search (given_refused, c.if-f-ne-DONE.true)
+
+pub returns : goal.returns
+returns c = search given_done
