@@ -26,7 +26,7 @@ rest_at k s = length s - length (after_words k s)
 
 -- so many characters into a lent part: its block of memory, and the place there
 abbrev pub into : Bor (List ℕ) → ℕ → ℕ × ℕ
-into s n = (s.ptr.0, n + s.ptr.1)
+into s n = (s.ref_ptr.0, n + s.ref_ptr.1)
 
 -- the first word
 abbrev pub first_word : List ℕ → List ℕ

@@ -1,0 +1,12 @@
+-- `replay_inputs::fill` meets its contract. The loop stores one byte after the other.
+-- Assumes nothing.
+use Prim.Native.Nat.{◌-◌}
+use Rattle.replay_inputs.proofs.Making.{Filled, filled_none, filled_more, filled_draws, filled_holds}
+use borrow.Author.Rules.{rules}
+use Rattle.replay_inputs.proofs.fill.Given as goal
+
+abbrev pub invariant-loop-k : goal.invariant-loop-k
+invariant-loop-k l = Filled l.initial.block l.m l.n l.digits l.i l.block l.y l.k
+
+abbrev pub decreases-loop-k : goal.decreases-loop-k
+decreases-loop-k l = l.m - l.k
