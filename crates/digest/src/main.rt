@@ -11,13 +11,10 @@ ghost use Rattle.saltcurtain.specs.Entries.{given};
 ghost use Rattle.digest.specs.Turns.{Turned, Ended};
 
 use generate::State;
-
-// The file descriptors that a program has from its start.
-const INPUT: i32 = 0;
-
-const OUTPUT: i32 = 1;
-
-const ERRORS: i32 = 2;
+use reading::Input;
+use std::env::{Env, FillError};
+use std::io;
+use std::io::{Stdin, Write};
 
 // As many blocks of a byte or more as a state can take bytes: what comes after them changes nothing.
 const BLOCKS: u64 = 4_294_967_296;
@@ -30,12 +27,12 @@ struct Turn {
 }
 
 // One read, and the state after its bytes. `reads` counts the reads.
-fn one(s: State, reads: &mut u64) -> Turn
+fn one(input: Stdin, s: State, reads: &mut u64) -> Turn
     ensures turned { Turned reads.old s result }
     ensures reads_after { reads.new ≡ (reads.old + 1) % 2 ^ 64 }
 {
-    let mut block = io::large_buffer();
-    let got = reading::read_block(INPUT, reads, &mut block);
+    let mut block = [0u8; 65_536];
+    let got = reading::read_block(Input::Standard(input), reads, &mut block);
     let kind = got.kind;
     if kind != reading::MORE {
         return Turn {
@@ -53,7 +50,7 @@ fn one(s: State, reads: &mut u64) -> Turn
 }
 
 // Reads to the end, from the fresh state of the normal variant.
-fn all() -> Turn
+fn all(input: Stdin) -> Turn
     ensures { Ended result }
 {
     let fresh = generate::new(params::NORMAL);
@@ -61,7 +58,7 @@ fn all() -> Turn
     let mut s = start;
     let mut reads = 0u64;
     while reads < BLOCKS {
-        let t = one(s, &mut reads);
+        let t = one(input, s, &mut reads);
         let kind = t.kind;
         if kind != reading::MORE {
             return t;
@@ -102,29 +99,31 @@ fn answer_for(s: State) -> Answer
     }
 }
 
-fn main() {
-    if os::arg_count() > 1 {
-        io::write_all(
-            ERRORS,
+// Whether the program was given an argument beside its name.
+fn has_argument(rt: &HostRuntime) -> bool {
+    let mut word = [0u8; 1];
+    !matches!(rt.arg(1, &mut word), Err(FillError::NotPresent))
+}
+
+fn main(rt: HostRuntime) -> io::Result<()> {
+    let mut output = rt.stdout();
+    let mut errors = rt.stderr();
+    if has_argument(&rt) {
+        return errors.write_all(
             b"digest: takes no argument; it reads standard input: digest < FILE\n",
         );
-        return;
     }
-    let t = all();
+    let t = all(rt.stdin());
     let kind = t.kind;
     if kind == reading::FAILED {
-        io::write_all(ERRORS, b"digest: standard input cannot be read\n");
-        return;
+        return errors.write_all(b"digest: standard input cannot be read\n");
     }
     let s = t.state;
     let a = answer_for(s);
     if a.number != params::DONE {
-        io::write_all(OUTPUT, b"refused ");
-        io::print_decimal(OUTPUT, a.number as u64);
-        io::write_all(OUTPUT, b"\n");
-        return;
+        let number = a.number;
+        return writeln!(output, "refused {number}");
     }
-    let text = a.text;
-    io::write_all(OUTPUT, &text);
-    io::write_all(OUTPUT, b"\n");
+    output.write_all(&a.text)?;
+    output.write_all(b"\n")
 }

@@ -1,25 +1,25 @@
 -- The steps of finalizing: one law for each way out of a function, in the code's own terms.
 -- Assumes nothing.
 use mathlib.Core.Path.{◌≡◌, refl, sym, ◌∙◌, ap}
-use mathlib.Core.Bool.{Bool, true, false, not}
+use mathlib.Core.Bool.{Bool, true, false}
 use mathlib.Core.List.{List}
 use Prim.Native.Nat.{ℕ, ◌≤◌, ◌<◌}
 use native.Mathlib.Omega.{arith}
 use lib.Dec.{ltb, eqb}
-use lib.ListN.{length, take}
-use borrow.Author.Tests.{lt-ltb, le-ltb, eq-eqb, ne_eqb, eqb-false, not-true, not-false}
+use lib.ListN.{take}
+use borrow.Author.Tests.{lt-ltb, le-ltb, eq-eqb, ne_eqb, eqb-false}
 use Rattle.params.specs.Variants.{known}
 use Rattle.params.specs.Answers.{done, too_large_input, too_small_input, three_quarter_empty, half_empty, unknown_variant, unreached_state}
 use Rattle.length.specs.declared.Coded.{Coded}
 use Rattle.length.specs.declared.Limits.{Limits}
 use Rattle.length.specs.Code.{coded}
-use Rattle.length.specs.Limits.{minimum, maximum, limits_of}
+use Rattle.length.specs.Limits.{maximum, limits_of}
 use Rattle.quartile.specs.declared.Quartiles.{Quartiles}
 use Rattle.quartile.specs.Quartile.{quartiles}
 use Rattle.quartile.specs.Counts.{non_zero}
 use Rattle.quartile.proofs.Three.{quartiles_ordered}
 use Rattle.qratios.specs.declared.ByteAnswer.{ByteAnswer}
-use Rattle.qratios.specs.Ratios.{ordered, byte_answered, ratios_byte}
+use Rattle.qratios.specs.Ratios.{ordered, byte_answered}
 use Rattle.qratios.proofs.Answers.{in_order}
 use Rattle.body.specs.Body.{body_of}
 use Rattle.hash.specs.declared.Digest.{Digest}

@@ -1,12 +1,11 @@
 -- The lengths that a variant takes: what the code answers, and the maximum as the last top.
 -- Assumes nothing.
-use mathlib.Core.Path.{◌≡◌, refl, sym}
+use mathlib.Core.Path.{◌≡◌, sym}
 use mathlib.Core.Bool.{Bool, true, false, not}
 use Prim.Native.Nat.{ℕ}
 use borrow.Author.Tests.{eq-eqb, ne_eqb, not-true, not-false}
 use Rattle.params.specs.Variants.{known}
 use Rattle.params.specs.Answers.{done, unknown_variant}
-use Rattle.length.specs.declared.Limits.{Limits}
 use Rattle.length.specs.Limits.{minimum, maximum, limits_of}
 use Rattle.length.specs.Theorems.{MaximumTop}
 use Rattle.length.proofs.Codes.{last_top}

@@ -1,14 +1,12 @@
 -- What `options_of` answers.
 -- Assumes nothing.
 use mathlib.Core.Path.{◌≡◌}
-use mathlib.Core.Bool.{true, false}
-use Prim.Native.Nat.{ℕ, ◌/◌, ◌%◌, ◌≤◌, ◌<◌}
+use Prim.Native.Nat.{ℕ, ◌%◌, ◌≤◌, ◌<◌}
 use native.Mathlib.Nat.{div-one}
 use lib.Dec.{eqb}
 use borrow.Author.Tests.{lt-ltb, le-ltb}
 use Rattle.params.specs.Answers.{done, unknown_option}
 use Rattle.options.specs.declared.Options.{Options}
-use Rattle.options.specs.declared.Chosen.{Chosen}
 use Rattle.options.specs.Options.{flags, clear, has, chosen}
 
 -- above 31: 10, and no flag

@@ -1,6 +1,6 @@
 -- The option number (docs/RULES.md, section 7): 1 conservative, 2 integer ratios, 4 small, 8 half, 16 quarter, added.
 -- Assumes nothing.
-use Rattle.std.specs.Prelude.{ℕ, ◌/◌, ◌%◌, Bool, true, false, cond, ltb, eqb}
+use Rattle.std.specs.Prelude.{ℕ, ◌/◌, ◌%◌, Bool, false, cond, ltb, eqb}
 use Rattle.params.specs.Answers.{done, unknown_option}
 use Rattle.options.specs.declared.Options.{Options}
 use Rattle.options.specs.declared.Chosen.{Chosen}

@@ -1,6 +1,6 @@
 -- A rule of a table, or of all numbers below one, is one test that antt computes. These laws turn the test into the rule at each entry.
 -- Assumes nothing.
-use mathlib.Core.Path.{◌≡◌, ◌∙◌, subst, sym}
+use mathlib.Core.Path.{◌∙◌, subst, sym}
 use mathlib.Core.Bool.{Bool, true, false, ◌&&◌}
 use mathlib.Core.List.{List, [], ◌∷◌}
 use Prim.Native.Nat.{ℕ, zero, suc, ◌+◌, ◌<◌}

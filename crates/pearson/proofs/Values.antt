@@ -13,7 +13,6 @@ use mir.Val.{Fits}
 use borrow.Author.Tests.{ne_eqb, lt-ltb, le-ltb, not-true, not-false}
 use Rattle.params.specs.Variants.{known}
 use Rattle.params.specs.Answers.{done, unknown_variant}
-use Rattle.pearson.specs.declared.Mapped.{Mapped}
 use Rattle.pearson.specs.Table.{table}
 use Rattle.pearson.specs.Mapping.{look, after, mapping, short, own, bucket, lasts, mapped}
 use Rattle.pearson.specs.Theorems.{BucketBelow, BucketShort, ShortLow, ShortHigh}

@@ -21,9 +21,7 @@ use Rattle.generate.specs.declared.State.{State}
 use Rattle.generate.specs.Feed.{fresh, feed}
 use Rattle.generate.specs.Answer.{LengthAnswer, processed}
 use Rattle.generate.proofs.Reached.{variant_stays}
-use Rattle.options.specs.declared.Options.{Options}
 use Rattle.options.specs.Options.{flags, has, chosen}
-use Rattle.finalize.specs.declared.Finalized.{Finalized}
 use Rattle.finalize.specs.Final.{counts_as, is_too_small, is_three_quarter_empty, is_half_empty, replaced, digest_by, distributed, with_code}
 use Rattle.finalize.specs.Final.{measured, with_length, finalized_with, finalized_by, finalized, digest_of}
 use Rattle.finalize.proofs.Laws.{replaced_ordered}

@@ -5,7 +5,6 @@ use Rattle.pearson.specs.Table.{table}
 use Rattle.pearson.specs.Mapping.{look, after, mapping, short, own, bucket}
 use Rattle.length.specs.Tops.{tops}
 use Rattle.length.specs.Code.{coded}
-use Rattle.qratios.specs.Single.{halvings, doublings, single}
 use Rattle.qratios.specs.Ratios.{quotient}
 use Rattle.promises.specs.Examples.{examples, ExamplesHold}
 

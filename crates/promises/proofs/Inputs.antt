@@ -1,16 +1,16 @@
 -- What holds of every input: any cutting gives the same answer, and each number is given exactly on its condition.
 -- Assumes nothing.
-use mathlib.Core.Path.{◌≡◌, refl, sym, ◌∙◌, ap}
-use mathlib.Core.Bool.{Bool, true, false, cond, not}
+use mathlib.Core.Path.{◌≡◌, refl, ap}
+use mathlib.Core.Bool.{Bool, true, false, cond}
 use mathlib.Core.List.{List}
-use Prim.Native.Nat.{ℕ, ◌+◌, ◌^◌, ◌≤◌, ◌<◌, min}
+use Prim.Native.Nat.{ℕ, ◌^◌, ◌<◌}
 use native.Mathlib.Omega.{arith}
 use native.Mathlib.Decide.{dec_lt}
 use lib.Dec.{ltb, eqb}
 use lib.ListN.{length, take}
-use borrow.Author.Tests.{lt-ltb, le-ltb, eq-eqb, ltb-false}
+use borrow.Author.Tests.{lt-ltb}
 use Rattle.params.specs.Variants.{known}
-use Rattle.params.specs.Answers.{done, too_large_input, too_small_input, three_quarter_empty, half_empty, unknown_variant, unknown_option}
+use Rattle.params.specs.Answers.{done, too_large_input, too_small_input, three_quarter_empty, half_empty, unknown_variant}
 use Rattle.length.specs.declared.Coded.{Coded}
 use Rattle.length.specs.Code.{coded}
 use Rattle.length.specs.Limits.{maximum}
@@ -21,7 +21,6 @@ use Rattle.hash.specs.Digest.{zero_digest}
 use Rattle.generate.specs.declared.State.{State}
 use Rattle.generate.specs.Feed.{fresh, feed}
 use Rattle.generate.specs.Answer.{LengthAnswer, processed}
-use Rattle.generate.specs.Chunks.{joined, feeds}
 use Rattle.generate.proofs.Reached.{variant_stays, processed_below, processed_beyond}
 use Rattle.generate.proofs.Chunks.{feeds_joined}
 use Rattle.options.specs.declared.Options.{Options}
@@ -29,7 +28,7 @@ use Rattle.options.specs.Options.{flags, has, chosen}
 use Rattle.finalize.specs.declared.Finalized.{Finalized}
 use Rattle.finalize.specs.Final.{refused, counts_as, is_too_large, is_too_small, is_three_quarter_empty, is_half_empty, replaced, digest_by}
 use Rattle.finalize.specs.Final.{distributed, with_code, measured, with_length, finalized_with, finalized_by, finalized, digest_of}
-use Rattle.promises.specs.Demands.{AnyCutting, used_of, input_number_with, input_number, ExactNumbers, ZeroBesideRefusal}
+use Rattle.promises.specs.Demands.{AnyCutting, input_number_with, input_number, ExactNumbers, ZeroBesideRefusal}
 
 -- any cutting
 pub any_cutting : AnyCutting

@@ -2,7 +2,7 @@
 -- least a quarter of the used counters and one more are no less than it, and all counters together are six times the length field, which is
 -- four less than the input.
 -- Assumes nothing.
-use mathlib.Core.Path.{◌≡◌, refl}
+use mathlib.Core.Path.{◌≡◌}
 use mathlib.Core.Bool.{Bool, true, false, cond}
 use mathlib.Core.List.{List, [], ◌∷◌}
 use Prim.Native.Nat.{ℕ, zero, suc, ◌+◌, ◌-◌, ◌*◌, ◌/◌, ◌^◌, ◌≤◌, ◌<◌}
@@ -11,7 +11,7 @@ use lib.Dec.{eqb}
 use lib.ListN.{length, take, length-take}
 use Rattle.params.specs.Words.{sum}
 use Rattle.params.specs.Variants.{known}
-use Rattle.params.proofs.Variants.{by_variant, known_least, known_most}
+use Rattle.params.proofs.Variants.{by_variant}
 use Rattle.quartile.specs.Quartile.{quartiles}
 use Rattle.quartile.proofs.Three.{third_heavy}
 use Rattle.qratios.specs.Demands.{light_third, agreeing_third}

@@ -1,7 +1,7 @@
 -- What is promised of whole digests, as statements: when the two ratio paths agree, that a cutting does not matter, which number an
 -- input gets, and that a digest that it gets is a record that the port makes and comes back from its text.
 -- Assumes nothing.
-use Rattle.std.specs.Prelude.{ℕ, ◌+◌, ◌-◌, ◌*◌, ◌≤◌, ◌<◌, Bool, true, false, cond, not, List, ◌≡◌, ltb, eqb, length, get_or, take}
+use Rattle.std.specs.Prelude.{ℕ, ◌+◌, ◌-◌, ◌*◌, ◌≤◌, Bool, true, false, cond, List, ◌≡◌, ltb, eqb, length, get_or, take}
 use Rattle.params.specs.Words.{sum}
 use Rattle.params.specs.Variants.{known}
 use Rattle.params.specs.Answers.{done, too_large_input, too_small_input, three_quarter_empty, half_empty, unknown_variant, unknown_option}
@@ -17,7 +17,6 @@ use Rattle.generate.specs.Feed.{fresh, feed}
 use Rattle.generate.specs.Chunks.{joined, feeds}
 use Rattle.options.specs.declared.Options.{Options}
 use Rattle.options.specs.Options.{flags, has, has_unknown_bit, chosen}
-use Rattle.finalize.specs.declared.Finalized.{Finalized}
 use Rattle.finalize.specs.Final.{is_too_small, is_three_quarter_empty, is_half_empty, finalized_with, finalized, digest_of}
 use Rattle.saltcurtain.specs.Entries.{digested}
 

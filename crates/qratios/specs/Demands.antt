@@ -1,6 +1,6 @@
 -- What is promised of the numbers and of the two paths, as statements (docs/RULES.md, section 4, step 6, and section 9).
 -- Assumes nothing.
-use Rattle.std.specs.Prelude.{◌≡◌, ℕ, suc, ◌+◌, ◌-◌, ◌*◌, ◌%◌, ◌^◌, ◌<◌, ◌≤◌, true, false}
+use Rattle.std.specs.Prelude.{◌≡◌, ℕ, suc, ◌+◌, ◌*◌, ◌%◌, ◌^◌, ◌<◌, ◌≤◌, true, false}
 use Rattle.params.specs.Words.{apart}
 use Rattle.params.specs.Answers.{done}
 use Rattle.qratios.specs.Single.{Single, top, bottom, bits, from_bits, single}

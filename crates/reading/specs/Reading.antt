@@ -2,7 +2,15 @@
 -- Assumes nothing.
 use Rattle.std.specs.Prelude.{◌≡◌, ℕ, zero, suc, ◌≤◌, List, [], ◌++◌, length, take, ℤ, pos, negsuc}
 use Rattle.reading_seal.specs.Came.{Came}
+use Rattle.std.specs.Fd.{file_raw_fd}
 use Rattle.reading.specs.declared.Got.{Got}
+use Rattle.reading.specs.declared.Input.{Input}
+use Rattle.reading.specs.declared.Input.TheVariants.{Standard, Opened}
+
+-- the file descriptor of what is read
+abbrev pub number_of : Input → ℤ
+number_of (Standard s) = pos 0
+number_of (Opened f) = file_raw_fd f.now
 
 -- what an answer of the C library's read says: bytes (0), the end (1), a failure (2)
 abbrev pub got_of : ℤ → Got

@@ -2,7 +2,12 @@
 #![tactic(auto)]
 
 ghost use Rattle.std.specs.Prelude.{◌≡◌, ◌+◌, ◌%◌, ◌^◌};
-ghost use Rattle.reading.specs.Reading.{Read};
+ghost use Rattle.std.specs.Io.{ReadsAtMost};
+ghost use Rattle.reading.specs.Reading.{Read, number_of};
+
+use std::fs::File;
+use std::io;
+use std::io::{Read as Reader, Stdin};
 
 // What a read came to: bytes, after which more may follow; the end; or a failure.
 pub const MORE: u32 = 0;
@@ -11,6 +16,13 @@ pub const END: u32 = 1;
 
 pub const FAILED: u32 = 2;
 
+// What is read: standard input, or an open file. `number_of` names its file descriptor.
+#[derive(Clone, Copy)]
+pub enum Input<'a> {
+    Standard(Stdin),
+    Opened(&'a File),
+}
+
 // What a read came to, and how many bytes it put at the front of the block: 0 but for `MORE`.
 #[derive(Clone, Copy)]
 pub struct Got {
@@ -18,20 +30,29 @@ pub struct Got {
     pub count: usize,
 }
 
+// What the system answers to one read into a block: how many bytes it put at the front, or an error.
+fn answer_of(input: Input, block: &mut [u8]) -> io::Result<usize>
+    ensures { ReadsAtMost result block.new }
+{
+    match input {
+        Input::Standard(mut standard) => standard.read(block),
+        Input::Opened(mut opened) => opened.read(block),
+    }
+}
+
 // One read of a file descriptor into a block. `reads` counts the reads, rolls over at 2^64, and is the number of this one.
-pub fn read_block(fd: i32, reads: &mut u64, block: &mut [u8]) -> Got
-    ensures read { Read fd reads.old block.new result }
+#[tactic(auto, using(crate::proofs::Laws::read_failed, crate::proofs::Laws::read_end, crate::proofs::Laws::read_more))]
+pub fn read_block(input: Input, reads: &mut u64, block: &mut [u8]) -> Got
+    ensures read { Read (number_of input.entry) reads.old block.new result }
     ensures reads_after { reads.new ≡ (reads.old + 1) % 2 ^ 64 }
 {
-    *reads = std::num::wrapping_add_u64(*reads, 1);
-    let answer = libc::read(fd, block);
-    if answer < 0 {
+    *reads = reads.wrapping_add(1);
+    let Ok(count) = answer_of(input, block) else {
         return Got {
             kind: FAILED,
             count: 0,
         };
-    }
-    let count = io::count(answer, block);
+    };
     if count == 0 {
         return Got {
             kind: END,

@@ -6,10 +6,13 @@
 #![tactic(auto)]
 
 ghost use Rattle.std.specs.Prelude.{◌≡◌, ◌+◌, ◌%◌, ◌^◌, [], ◌∷◌};
+ghost use Rattle.std.specs.Fd.{file_raw_fd};
 ghost use Rattle.replay.specs.Lines.{Goes, Turned, Listed};
 
-// The file descriptor that a program writes to.
-const OUTPUT: i32 = 1;
+use reading::Input;
+use std::fs::File;
+use std::io;
+use std::io::{Stdout, Write};
 
 // As many blocks are read; no list is longer.
 const BLOCKS: u64 = 16_777_216;
@@ -33,24 +36,22 @@ struct Turn {
 }
 
 // Says what is wrong with a line, unless so many have been shown.
-fn report(line: u64, verdict: u32, shown: u64) {
+fn report(mut output: Stdout, line: u64, verdict: u32, shown: u64) {
     if SHOWN <= shown {
         return;
     }
-    io::write_all(OUTPUT, b"line ");
-    io::print_decimal(OUTPUT, line);
-    if verdict == 1 {
-        io::write_all(OUTPUT, b" differs\n");
+    let _ = if verdict == 1 {
+        writeln!(output, "line {line} differs")
     } else {
-        io::write_all(OUTPUT, b" is malformed\n");
-    }
+        writeln!(output, "line {line} is malformed")
+    };
 }
 
 // Judges the line that has come to its end.
-fn take_line(line: &[u8], t: Tally) -> Tally
+fn take_line(output: Stdout, line: &[u8], t: Tally) -> Tally
     ensures { Goes line.now t (10 ∷ []) line.now result }
 {
-    let lines = std::num::wrapping_add_u64(t.lines, 1);
+    let lines = t.lines.wrapping_add(1);
     let verdict = replay_verdict::judge(line, t.size);
     if verdict == 0 {
         return Tally {
@@ -59,8 +60,8 @@ fn take_line(line: &[u8], t: Tally) -> Tally
             size: 0,
         };
     }
-    report(lines, verdict, t.wrong);
-    let wrong = std::num::wrapping_add_u64(t.wrong, 1);
+    report(output, lines, verdict, t.wrong);
+    let wrong = t.wrong.wrapping_add(1);
     Tally {
         lines: lines,
         wrong: wrong,
@@ -69,12 +70,12 @@ fn take_line(line: &[u8], t: Tally) -> Tally
 }
 
 // Takes a character in. A line that has no room gets a size past the room's end, and so is malformed.
-fn take_byte(b: u8, line: &mut [u8], t: Tally) -> Tally
+fn take_byte(output: Stdout, b: u8, line: &mut [u8], t: Tally) -> Tally
     ensures { Goes line.old t (b ∷ []) line.new result }
 {
     let size = t.size;
     if b == b'\n' {
-        return take_line(line, t);
+        return take_line(output, line, t);
     }
     let room = line.len();
     if room <= size {
@@ -95,25 +96,25 @@ fn take_byte(b: u8, line: &mut [u8], t: Tally) -> Tally
 }
 
 // Takes the characters of a block in.
-fn take_block(block: &[u8], line: &mut [u8], t: Tally) -> Tally
+fn take_block(output: Stdout, block: &[u8], line: &mut [u8], t: Tally) -> Tally
     ensures { Goes line.old t block.now line.new result }
 {
     let mut tally = t;
     let mut i = 0;
     while i < block.len() {
-        tally = take_byte(block[i], line, tally);
+        tally = take_byte(output, block[i], line, tally);
         i += 1;
     }
     tally
 }
 
 // Reads a block, and takes it in. `reads` counts the reads.
-fn read_block(fd: i32, reads: &mut u64, line: &mut [u8], t: Tally) -> Turn
-    ensures turned { Turned fd reads.old line.old t line.new result }
+fn read_block(output: Stdout, list: &File, reads: &mut u64, line: &mut [u8], t: Tally) -> Turn
+    ensures turned { Turned (file_raw_fd list.now) reads.old line.old t line.new result }
     ensures reads_after { reads.new ≡ (reads.old + 1) % 2 ^ 64 }
 {
-    let mut block = io::large_buffer();
-    let got = reading::read_block(fd, reads, &mut block);
+    let mut block = [0u8; 65_536];
+    let got = reading::read_block(Input::Opened(list), reads, &mut block);
     let kind = got.kind;
     if kind != reading::MORE {
         return Turn {
@@ -122,7 +123,7 @@ fn read_block(fd: i32, reads: &mut u64, line: &mut [u8], t: Tally) -> Turn
         };
     }
     let n = got.count;
-    let next = take_block(&block[..n], line, t);
+    let next = take_block(output, &block[..n], line, t);
     Turn {
         kind: kind,
         tally: next,
@@ -130,8 +131,8 @@ fn read_block(fd: i32, reads: &mut u64, line: &mut [u8], t: Tally) -> Turn
 }
 
 // Reads the list to its end.
-fn read_list(fd: i32, line: &mut [u8]) -> Turn
-    ensures { Listed fd line.new result }
+fn read_list(output: Stdout, list: &File, line: &mut [u8]) -> Turn
+    ensures { Listed (file_raw_fd list.now) line.new result }
 {
     let mut tally = Tally {
         lines: 0,
@@ -140,7 +141,7 @@ fn read_list(fd: i32, line: &mut [u8]) -> Turn
     };
     let mut reads = 0u64;
     while reads < BLOCKS {
-        let t = read_block(fd, &mut reads, line, tally);
+        let t = read_block(output, list, &mut reads, line, tally);
         let kind = t.kind;
         if kind != reading::MORE {
             return t;
@@ -155,28 +156,25 @@ fn read_list(fd: i32, line: &mut [u8]) -> Turn
 }
 
 // Says how a reading ended, where it is not at the end of a line and of the list, and what it counted.
-fn conclude(t: Turn) {
+fn conclude(mut output: Stdout, t: Turn) -> io::Result<()> {
     if t.kind != reading::END {
-        io::write_all(OUTPUT, b"answers.txt cannot be read to its end\n");
+        output.write_all(b"answers.txt cannot be read to its end\n")?;
     }
     let tally = t.tally;
     if tally.size != 0 {
-        io::write_all(OUTPUT, b"the last line has no end\n");
+        output.write_all(b"the last line has no end\n")?;
     }
-    io::write_all(OUTPUT, b"replayed ");
-    io::print_decimal(OUTPUT, tally.lines);
-    io::write_all(OUTPUT, b" answers, ");
-    io::print_decimal(OUTPUT, tally.wrong);
-    io::write_all(OUTPUT, b" differ\n");
+    let lines = tally.lines;
+    let wrong = tally.wrong;
+    writeln!(output, "replayed {lines} answers, {wrong} differ")
 }
 
-fn main() {
-    let fd = os::open_read(b"answers.txt");
-    if fd < 0 {
-        io::write_all(OUTPUT, b"answers.txt cannot be opened\n");
-        return;
-    }
+fn main(rt: HostRuntime) -> io::Result<()> {
+    let mut output = rt.stdout();
+    let Ok(list) = File::open(&rt, "answers.txt") else {
+        return output.write_all(b"answers.txt cannot be opened\n");
+    };
     let mut line = [0u8; 320];
-    let t = read_list(fd, &mut line);
-    conclude(t);
+    let t = read_list(output, &list, &mut line);
+    conclude(output, t)
 }

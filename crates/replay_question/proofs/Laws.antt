@@ -13,7 +13,6 @@ use Rattle.replay_words.specs.declared.Number.{Number}
 use Rattle.replay_words.specs.Words.{after_words, first_word, number_of}
 use Rattle.replay_pattern.specs.Pattern.{is_pattern}
 use Rattle.replay_question.specs.declared.Asked.{Asked}
-use Rattle.replay_question.specs.declared.Question.{Question}
 use Rattle.replay_question.specs.Question.{number_after, seed_word, seed_of, input_of, question_of}
 
 -- a number is that of its word

@@ -3,7 +3,7 @@
 use mathlib.Core.Path.{◌≡◌, refl, sym, ◌∙◌, ap}
 use mathlib.Core.Bool.{Bool, true, false, not, ◌&&◌, and_assoc, and-true, and-false, true≢false}
 use mathlib.Core.List.{List, [], ◌∷◌}
-use Prim.Native.Nat.{ℕ, zero, suc, ◌+◌, ◌-◌, ◌*◌, ◌^◌, ◌≤◌, ◌<◌}
+use Prim.Native.Nat.{ℕ, suc, ◌+◌, ◌-◌, ◌*◌, ◌^◌, ◌≤◌, ◌<◌}
 use native.Mathlib.Nat.{pow-suc, pow-le-pow_right}
 use native.Mathlib.Numerals.{add-one}
 use native.Mathlib.Omega.{arith}
@@ -14,7 +14,6 @@ use borrow.Author.Tests.{eq-eqb, ne_eqb, lt-ltb, le-ltb, ltb-false, not-false}
 use lib.Ieee.Bits.{is_true}
 use Rattle.params.specs.Words.{every}
 use Rattle.params.proofs.Every.{and_left, and_right, every_at}
-use Rattle.replay_words.specs.declared.Number.{Number}
 use Rattle.replay_words.specs.Words.{word_size, after_words, rest_at, first_word, same_text, is_decimal}
 use Rattle.replay_words.specs.Words.{all_decimal, decimal_after, is_numeral, number_of}
 

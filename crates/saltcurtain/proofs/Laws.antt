@@ -1,11 +1,11 @@
 -- The entry points: one law for each way out, in the code's own terms.
 -- Assumes nothing.
 use mathlib.Core.Path.{◌≡◌, refl, sym, ◌∙◌, ap}
-use mathlib.Core.Bool.{Bool, true, false, not, true≢false}
-use mathlib.Core.List.{List, [], ◌∷◌, ◌++◌}
+use mathlib.Core.Bool.{Bool, true, false, not}
+use mathlib.Core.List.{List, [], ◌∷◌}
 use Prim.Native.Nat.{ℕ, ◌+◌, ◌-◌, ◌^◌, ◌≤◌, ◌<◌, min}
 use native.Mathlib.Omega.{arith}
-use lib.Dec.{T, ltb, eqb}
+use lib.Dec.{T, ltb}
 use lib.Ieee.{binary32, to_bits, is_nan}
 use lib.ListN.{length, take, drop}
 use lib.Seq.{take-add, take_all}
@@ -15,14 +15,12 @@ use Rattle.params.specs.Answers.{done, short_destination}
 use Rattle.length.specs.declared.Coded.{Coded}
 use Rattle.length.specs.Code.{coded}
 use Rattle.qratios.specs.declared.RatiosAnswer.{RatiosAnswer}
-use Rattle.qratios.specs.Single.{bits, whole}
 use Rattle.qratios.specs.Ratios.{quotient, ordered, ratios_of}
 use Rattle.qratios.proofs.Truncate.{Truncates, truncates}
 use Rattle.qratios.proofs.Answers.{first_fit, second_fit}
-use Rattle.hash.specs.declared.Digest.{Digest}
 use Rattle.text.specs.declared.SizeAnswer.{SizeAnswer}
 use Rattle.parse.specs.declared.ReadAnswer.{ReadAnswer}
-use Rattle.text.specs.Text.{text_size, size_of, Wrote, write_of, Written}
+use Rattle.text.specs.Text.{text_size, size_of, write_of, Written}
 use Rattle.parse.specs.Reading.{read_of}
 use Rattle.generate.specs.declared.State.{State}
 use Rattle.generate.specs.declared.StateAnswer.{StateAnswer}
@@ -33,7 +31,7 @@ use Rattle.options.specs.declared.Chosen.{Chosen}
 use Rattle.options.specs.Options.{chosen}
 use Rattle.finalize.specs.declared.Finalized.{Finalized}
 use Rattle.finalize.specs.Final.{finalized, digest_of}
-use Rattle.saltcurtain.specs.Entries.{kept, argument_number, given, digested, rewritten, ratios_written, code_written}
+use Rattle.saltcurtain.specs.Entries.{argument_number, given, digested, rewritten, ratios_written, code_written}
 
 -- ---- the arguments
 

@@ -7,7 +7,7 @@ use Rattle.params.specs.Answers.{done, unknown_variant, short_destination, unkno
 use Rattle.options.specs.Options.{has_unknown_bit}
 use Rattle.length.specs.Code.{coded}
 use Rattle.qratios.specs.Single.{bits, whole}
-use Rattle.qratios.specs.Ratios.{quotient, ordered, ratios_of}
+use Rattle.qratios.specs.Ratios.{quotient, ratios_of}
 use Rattle.hash.specs.declared.Digest.{Digest}
 use Rattle.text.specs.Text.{text_size, Wrote, write_of}
 use Rattle.parse.specs.Reading.{read_of}

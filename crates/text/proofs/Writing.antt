@@ -7,17 +7,16 @@ use Prim.Native.Nat.{ℕ, suc, ◌+◌, ◌*◌, ◌/◌, ◌%◌, ◌≤◌, �
 use native.Mathlib.Nat.{zero-add, add-zero}
 use native.Mathlib.Numerals.{add-one}
 use native.Mathlib.Omega.{arith}
-use lib.ListN.{length, get_or, set, take, drop, length-set}
-use lib.Seq.{sets, length-sets, sets-eq, take-suc, length-take-le}
+use lib.ListN.{length, set, take, drop, length-set}
+use lib.Seq.{sets, sets-eq, length-take-le}
 use borrow.Author.Tests.{lt-ltb, le-ltb}
 use Rattle.params.specs.Variants.{known}
 use Rattle.params.proofs.Variants.{by_variant}
 use Rattle.params.specs.Answers.{done, unknown_variant, short_destination}
 use Rattle.hash.specs.declared.Digest.{Digest}
-use Rattle.text.specs.declared.SizeAnswer.{SizeAnswer}
 use Rattle.body.specs.Body.{bytes_of}
 use Rattle.text.proofs.Characters.{digit_small}
-use Rattle.text.specs.Text.{size_of, digit_of, low_first, high_first, head_text, body_text, text_of, text_size, Written, write_of}
+use Rattle.text.specs.Text.{size_of, digit_of, low_first, head_text, body_text, text_of, text_size, Written, write_of}
 
 -- two lists of stores, one after the other
 pub sets_append : (vs ws l : List ℕ) (i : ℕ) → sets l i (vs ++ ws) ≡ sets (sets l i vs) (i + length vs) ws

@@ -1,7 +1,6 @@
 -- `body::body_of` meets its contract. The loop fills the body from its last used byte to its first.
 -- Assumes nothing.
-use Prim.Native.Nat.{◌-◌}
-use Rattle.body.proofs.Laws.{Filled, filled_none, filled_more, filled_all, four_there}
+use Rattle.body.proofs.Laws.{filled_none, filled_more, filled_all, four_there}
 use borrow.Author.Rules.{rules}
 use Rattle.body.proofs.body_of.Goals as goal
 

@@ -1,8 +1,7 @@
 -- `body::body_of` meets its contract. The loop fills the body from its last used byte to its first.
 -- Assumes nothing.
 use Prim.Native.Nat.{◌-◌}
-use Rattle.body.proofs.Laws.{Filled, filled_none, filled_more, filled_all, four_there}
-use borrow.Author.Rules.{rules}
+use Rattle.body.proofs.Laws.{Filled}
 use Rattle.body.proofs.body_of.Given as goal
 
 abbrev pub invariant-loop-i : goal.invariant-loop-i

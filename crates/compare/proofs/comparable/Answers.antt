@@ -1,7 +1,6 @@
 -- `compare::comparable` meets its contract: two variants, an unknown one, a known one.
 -- Assumes nothing.
 use Rattle.compare.proofs.Answers.{comparable_unlike, comparable_unknown, comparable_known}
-use borrow.Author.Rules.{rules}
 use Rattle.compare.proofs.comparable.Goals as goal
 
 pub returns-then-v-w : goal.returns-then-v-w

@@ -1,7 +1,6 @@
 -- `compare::distance` meets its contract: a refusal, or the sum.
 -- Assumes nothing.
 use Rattle.compare.proofs.Answers.{known_first, distance_refused, distance_whole}
-use borrow.Author.Rules.{rules}
 use Rattle.compare.proofs.distance.Goals as goal
 
 pub returns-then-number-ne-DONE : goal.returns-then-number-ne-DONE

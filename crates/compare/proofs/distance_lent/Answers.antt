@@ -1,7 +1,6 @@
 -- `compare::distance_lent` meets its contract: a refusal, or the sum.
 -- Assumes nothing.
 use Rattle.compare.proofs.Answers.{known_first, distance_refused, distance_done}
-use borrow.Author.Rules.{rules}
 use Rattle.compare.proofs.distance_lent.Goals as goal
 
 pub returns-then-number-ne-DONE : goal.returns-then-number-ne-DONE

@@ -1,7 +1,6 @@
 -- `compare::total` meets its contract: no sum leaves the 64 bits, and the last is that of the bytes.
 -- Assumes nothing.
 use Rattle.compare.proofs.Lanes.{total_fits, first_fits, second_fits, total_sum, total_most}
-use borrow.Author.Rules.{rules}
 use Rattle.compare.proofs.total.Goals as goal
 
 pub overflow_add-t : goal.overflow_add-t

@@ -1,7 +1,6 @@
 -- `compare::unlike` meets its contract: 6, 6 and 12.
 -- Assumes nothing.
 use Rattle.compare.proofs.Answers.{unlike_first, unlike_second, unlike_both}
-use borrow.Author.Rules.{rules}
 use Rattle.compare.proofs.unlike.Goals as goal
 
 pub returns-then-not-is_known : goal.returns-then-not-is_known

@@ -1,7 +1,6 @@
 -- `compare::word` meets its contract.
 -- Assumes nothing.
 use Rattle.compare.proofs.Bodies.{word_is}
-use borrow.Author.Rules.{rules}
 use Rattle.compare.proofs.word.Goals as goal
 
 pub returns : goal.returns

@@ -1,7 +1,6 @@
 -- `counting::increment_at` meets its contract.
 -- Assumes nothing.
 use Rattle.counting.proofs.Laws.{bump_at}
-use Rattle.std.proofs.Common.{rules}
 use Rattle.counting.proofs.increment_at.Goals as goal
 
 pub returns : goal.returns

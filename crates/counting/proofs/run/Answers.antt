@@ -1,7 +1,6 @@
 -- `counting::run` meets its contract: after i bytes, those that are left lead to the same end.
 -- Assumes nothing.
-use Rattle.std.proofs.Common.{◌-◌, length, rules}
-use Rattle.counting.proofs.Laws.{Runs, runs_none, runs_more, runs_all}
+use Rattle.counting.proofs.Laws.{runs_none, runs_more, runs_all}
 use Rattle.counting.proofs.run.Goals as goal
 
 pub loop-i-init : goal.loop-i-init

@@ -1,7 +1,7 @@
 -- `counting::run` meets its contract: after i bytes, those that are left lead to the same end.
 -- Assumes nothing.
-use Rattle.std.proofs.Common.{◌-◌, length, rules}
-use Rattle.counting.proofs.Laws.{Runs, runs_none, runs_more, runs_all}
+use Rattle.std.proofs.Common.{◌-◌, length}
+use Rattle.counting.proofs.Laws.{Runs}
 use Rattle.counting.proofs.run.Given as goal
 
 abbrev pub invariant-loop-i : goal.invariant-loop-i

@@ -1,7 +1,6 @@
 -- `counting::slide` meets its contract.
 -- Assumes nothing.
 use Rattle.counting.proofs.Laws.{ran_one}
-use Rattle.std.proofs.Common.{rules}
 use Rattle.counting.proofs.slide.Goals as goal
 
 pub returns : goal.returns

@@ -1,7 +1,6 @@
 -- `finalize::distribute` meets its contract: the third quartile is tested before the count.
 -- Assumes nothing.
 use Rattle.finalize.proofs.Laws.{replaced_ordered, distributed_three, distributed_half, distributed_done}
-use borrow.Author.Rules.{rules}
 use Rattle.finalize.proofs.distribute.Goals as goal
 
 pub returns-then-three : goal.returns-then-three

@@ -2,7 +2,6 @@
 -- Assumes nothing.
 use native.Mathlib.Omega.{arith}
 use lib.ListN.{length-take}
-use borrow.Author.Rules.{rules}
 use Rattle.finalize.proofs.distribute_first.Goals as goal
 
 pub slice_bounds-distribute-end : goal.slice_bounds-distribute-end

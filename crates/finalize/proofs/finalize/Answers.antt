@@ -1,7 +1,6 @@
 -- `finalize::finalize` meets its contract.
 -- Assumes nothing.
 use Rattle.finalize.proofs.Laws.{finalized_refused, finalized_done}
-use borrow.Author.Rules.{rules}
 use Rattle.finalize.proofs.finalize.Goals as goal
 
 pub returns-then-c-ne-DONE : goal.returns-then-c-ne-DONE

@@ -1,7 +1,6 @@
 -- `finalize::finalize_with` meets its contract: one law for each case of the processed length.
 -- Assumes nothing.
 use Rattle.finalize.proofs.Laws.{given_known, unknown_known, with_variant, with_state, with_unknown, with_known}
-use borrow.Author.Rules.{rules}
 use Rattle.finalize.proofs.finalize_with.Goals as goal
 
 pub measure-requires : goal.measure-requires

@@ -3,7 +3,6 @@
 use native.Mathlib.Omega.{arith}
 use lib.ListN.{length-take}
 use Rattle.finalize.proofs.Laws.{half_lifted, half_quarter, half_tested}
-use borrow.Author.Rules.{rules}
 use Rattle.finalize.proofs.is_half_empty.Goals as goal
 
 pub returns-then-o : goal.returns-then-o

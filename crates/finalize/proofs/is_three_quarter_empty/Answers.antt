@@ -1,7 +1,6 @@
 -- `finalize::is_three_quarter_empty` meets its contract.
 -- Assumes nothing.
 use Rattle.finalize.proofs.Laws.{three_lifted, three_tested}
-use borrow.Author.Rules.{rules}
 use Rattle.finalize.proofs.is_three_quarter_empty.Goals as goal
 
 pub returns-then-o : goal.returns-then-o

@@ -1,7 +1,6 @@
 -- `finalize::is_too_small` meets its contract.
 -- Assumes nothing.
 use Rattle.finalize.proofs.Laws.{small_lifted, small_conservative, small_default}
-use borrow.Author.Rules.{rules}
 use Rattle.finalize.proofs.is_too_small.Goals as goal
 
 pub returns-then-o : goal.returns-then-o

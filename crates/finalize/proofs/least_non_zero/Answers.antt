@@ -1,7 +1,6 @@
 -- `finalize::least_non_zero` meets its contract.
 -- Assumes nothing.
 use Rattle.finalize.proofs.Laws.{least_short, least_normal, least_long}
-use borrow.Author.Rules.{rules}
 use Rattle.finalize.proofs.least_non_zero.Goals as goal
 
 pub returns-then-variant-eq-SHORT : goal.returns-then-variant-eq-SHORT

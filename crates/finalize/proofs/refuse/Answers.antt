@@ -1,6 +1,5 @@
 -- `finalize::refuse` meets its contract.
 -- Assumes nothing.
-use borrow.Author.Rules.{rules}
 use Rattle.finalize.proofs.refuse.Goals as goal
 
 pub returns : goal.returns

@@ -1,7 +1,6 @@
 -- `finalize::replace` meets its contract.
 -- Assumes nothing.
 use Rattle.finalize.proofs.Laws.{replaced_ones, replaced_same}
-use borrow.Author.Rules.{rules}
 use Rattle.finalize.proofs.replace.Goals as goal
 
 pub returns-then-q-eq0 : goal.returns-then-q-eq0

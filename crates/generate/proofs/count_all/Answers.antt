@@ -1,7 +1,6 @@
 -- `generate::count_all` meets its contract: what both parts of the bytes do is what all of them do.
 -- Assumes nothing.
 use Rattle.generate.proofs.Loops.{fours_length, ran_cut}
-use borrow.Author.Rules.{rules}
 use Rattle.generate.proofs.count_all.Goals as goal
 
 pub slice_bounds-over-end : goal.slice_bounds-over-end

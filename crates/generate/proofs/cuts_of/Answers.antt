@@ -1,7 +1,6 @@
 -- `generate::cuts_of` meets its contract: an unmarked state's numbers are in their bounds, and the rest is arithmetic.
 -- Assumes nothing.
 use Rattle.generate.proofs.Parts.{tail_bound, length-bound}
-use borrow.Author.Rules.{rules}
 use Rattle.generate.proofs.cuts_of.Goals as goal
 
 pub overflow_sub-short : goal.overflow_sub-short

@@ -1,7 +1,6 @@
 -- `generate::fed` meets its contract: the three parts of the bytes lead where all of them lead.
 -- Assumes nothing.
 use Rattle.generate.proofs.Parts.{first_length, first_fits, fed_parts}
-use borrow.Author.Rules.{rules}
 use Rattle.generate.proofs.fed.Goals as goal
 
 pub slice_bounds-fill-end : goal.slice_bounds-fill-end

@@ -1,9 +1,6 @@
 -- `generate::fill` meets its contract: the bytes are stored one behind the other.
 -- Assumes nothing.
-use Prim.Native.Nat.{◌-◌}
-use lib.ListN.{length}
-use Rattle.generate.proofs.Loops.{Fills, fills_none, fills_more, fills_all}
-use borrow.Author.Rules.{rules}
+use Rattle.generate.proofs.Loops.{fills_none, fills_more, fills_all}
 use Rattle.generate.proofs.fill.Goals as goal
 
 pub loop-i-init : goal.loop-i-init

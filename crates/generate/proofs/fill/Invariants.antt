@@ -2,8 +2,7 @@
 -- Assumes nothing.
 use Prim.Native.Nat.{◌-◌}
 use lib.ListN.{length}
-use Rattle.generate.proofs.Loops.{Fills, fills_none, fills_more, fills_all}
-use borrow.Author.Rules.{rules}
+use Rattle.generate.proofs.Loops.{Fills}
 use Rattle.generate.proofs.fill.Given as goal
 
 abbrev pub invariant-loop-i : goal.invariant-loop-i

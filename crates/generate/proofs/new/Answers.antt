@@ -1,7 +1,6 @@
 -- `generate::new` meets its contract: 6 for another variant, and else the fresh state.
 -- Assumes nothing.
 use Rattle.generate.proofs.Answers.{new_unknown, new_done}
-use borrow.Author.Rules.{rules}
 use Rattle.generate.proofs.new.Goals as goal
 
 pub returns-then-not-is_known : goal.returns-then-not-is_known

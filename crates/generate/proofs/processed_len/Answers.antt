@@ -1,7 +1,6 @@
 -- `generate::processed_len` meets its contract: 6, then 19, and else the length where it is below 2^32.
 -- Assumes nothing.
 use Rattle.generate.proofs.Answers.{processed_other, processed_marked, processed_unknown, processed_known}
-use borrow.Author.Rules.{rules}
 use Rattle.generate.proofs.processed_len.Goals as goal
 
 pub returns-then-not-is_known : goal.returns-then-not-is_known

@@ -2,7 +2,6 @@
 -- Assumes nothing.
 use mathlib.Core.Path.{◌∙◌, sym}
 use Rattle.generate.proofs.Answers.{updated_unknown, updated_marked, updated_done}
-use borrow.Author.Rules.{rules}
 use Rattle.generate.proofs.update.Goals as goal
 
 pub returns-then-not-is_known : goal.returns-then-not-is_known

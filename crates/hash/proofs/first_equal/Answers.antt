@@ -1,8 +1,6 @@
 -- `hash::first_equal` meets its contract. The loop compares one byte after the other.
 -- Assumes nothing.
-use Prim.Native.Nat.{◌-◌}
-use Rattle.hash.proofs.Sameness.{Compared, compared_none, compared_more, compared_all}
-use borrow.Author.Rules.{rules}
+use Rattle.hash.proofs.Sameness.{compared_none, compared_more, compared_all}
 use Rattle.hash.proofs.first_equal.Goals as goal
 
 pub loop-i-init : goal.loop-i-init

@@ -1,8 +1,7 @@
 -- `hash::first_equal` meets its contract. The loop compares one byte after the other.
 -- Assumes nothing.
 use Prim.Native.Nat.{◌-◌}
-use Rattle.hash.proofs.Sameness.{Compared, compared_none, compared_more, compared_all}
-use borrow.Author.Rules.{rules}
+use Rattle.hash.proofs.Sameness.{Compared}
 use Rattle.hash.proofs.first_equal.Given as goal
 
 abbrev pub invariant-loop-i : goal.invariant-loop-i

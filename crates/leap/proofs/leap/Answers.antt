@@ -1,7 +1,6 @@
 -- `leap::leap` meets its contract: the tables that it lends are the variant's.
 -- Assumes nothing.
 use Rattle.leap.proofs.Turns.{ran_none}
-use Rattle.std.proofs.Common.{rules}
 use Rattle.leap.proofs.leap.Goals as goal
 
 pub returns-then-bytes-eq0 : goal.returns-then-bytes-eq0

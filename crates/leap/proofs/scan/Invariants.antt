@@ -1,7 +1,7 @@
 -- `leap::scan` meets its contract: after i bytes, those that are left lead to the same end.
 -- Assumes nothing.
-use Rattle.std.proofs.Common.{◌-◌, length, rules}
-use Rattle.leap.proofs.Turns.{Scans, scans_none, scans_more, scans_all}
+use Rattle.std.proofs.Common.{◌-◌, length}
+use Rattle.leap.proofs.Turns.{Scans}
 use Rattle.leap.proofs.scan.Given as goal
 
 abbrev pub invariant-loop-i : goal.invariant-loop-i

@@ -1,7 +1,6 @@
 -- `leap::turn_four` meets its contract.
 -- Assumes nothing.
 use Rattle.leap.proofs.Turns.{scanned_four}
-use Rattle.std.proofs.Common.{rules}
 use Rattle.leap.proofs.turn_four.Goals as goal
 
 pub returns : goal.returns

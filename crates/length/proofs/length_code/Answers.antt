@@ -1,10 +1,8 @@
 -- `length::length_code` meets its contract: the loop passes the tops below n, and yields the next or runs out.
 -- Assumes nothing.
 use mathlib.Core.Path.{refl}
-use Prim.Native.Nat.{◌-◌}
 use Rattle.length.specs.Tops as Tops
-use Rattle.length.proofs.Codes.{Passed, passed_none, passed_more, passed_here, passed_all}
-use borrow.Author.Rules.{rules}
+use Rattle.length.proofs.Codes.{passed_none, passed_more, passed_here, passed_all}
 use Rattle.length.proofs.length_code.Goals as goal
 
 pub loop-i-init : goal.loop-i-init

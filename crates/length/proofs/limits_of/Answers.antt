@@ -1,7 +1,6 @@
 -- `length::limits_of` meets its contract, variant by variant.
 -- Assumes nothing.
 use Rattle.length.proofs.Bounds.{limits_unknown, limits_short, limits_other}
-use borrow.Author.Rules.{rules}
 use Rattle.length.proofs.limits_of.Goals as goal
 
 pub returns-then-not-is_known : goal.returns-then-not-is_known

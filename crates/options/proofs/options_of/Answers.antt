@@ -1,7 +1,6 @@
 -- `options::options_of` meets its contract.
 -- Assumes nothing.
 use Rattle.options.proofs.Laws.{chosen_refused, chosen_done}
-use borrow.Author.Rules.{rules}
 use Rattle.options.proofs.options_of.Goals as goal
 
 pub returns-then-n-gt-MOST : goal.returns-then-n-gt-MOST

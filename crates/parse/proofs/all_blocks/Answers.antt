@@ -1,9 +1,6 @@
 -- `parse::all_blocks` meets its contract. The loop tests one block of sixteen characters after the other.
 -- Assumes nothing.
-use Prim.Native.Nat.{◌-◌}
-use lib.ListN.{length}
-use Rattle.parse.proofs.Reading.{Front, front_none, front_more, front_fail, front_all}
-use borrow.Author.Rules.{rules}
+use Rattle.parse.proofs.Reading.{front_none, front_more, front_fail, front_all}
 use Rattle.parse.proofs.all_blocks.Goals as goal
 
 pub loop-i-init : goal.loop-i-init

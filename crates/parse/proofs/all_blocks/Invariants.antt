@@ -2,8 +2,7 @@
 -- Assumes nothing.
 use Prim.Native.Nat.{◌-◌}
 use lib.ListN.{length}
-use Rattle.parse.proofs.Reading.{Front, front_none, front_more, front_fail, front_all}
-use borrow.Author.Rules.{rules}
+use Rattle.parse.proofs.Reading.{Front}
 use Rattle.parse.proofs.all_blocks.Given as goal
 
 abbrev pub invariant-loop-i : goal.invariant-loop-i

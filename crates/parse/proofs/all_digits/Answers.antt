@@ -1,9 +1,6 @@
 -- `parse::all_digits` meets its contract. The loop tests one character after the other.
 -- Assumes nothing.
-use Prim.Native.Nat.{◌-◌}
-use lib.ListN.{length}
-use Rattle.parse.proofs.Reading.{Tested, tested_none, tested_more, tested_all}
-use borrow.Author.Rules.{rules}
+use Rattle.parse.proofs.Reading.{tested_none, tested_more, tested_all}
 use Rattle.parse.proofs.all_digits.Goals as goal
 
 pub loop-i-init : goal.loop-i-init

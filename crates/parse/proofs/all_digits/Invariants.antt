@@ -2,8 +2,7 @@
 -- Assumes nothing.
 use Prim.Native.Nat.{◌-◌}
 use lib.ListN.{length}
-use Rattle.parse.proofs.Reading.{Tested, tested_none, tested_more, tested_all}
-use borrow.Author.Rules.{rules}
+use Rattle.parse.proofs.Reading.{Tested}
 use Rattle.parse.proofs.all_digits.Given as goal
 
 abbrev pub invariant-loop-i : goal.invariant-loop-i

@@ -1,7 +1,6 @@
 -- `parse::body_from` meets its contract. The loop stores one block of eight bytes after the other.
 -- Assumes nothing.
-use Prim.Native.Nat.{◌-◌}
-use Rattle.parse.proofs.Reading.{Bodied, bodied_none, bodied_more, bodied_all, digits_part, part_16}
+use Rattle.parse.proofs.Reading.{bodied_none, bodied_more, bodied_all, digits_part, part_16}
 use borrow.Author.Rules.{rules}
 use Rattle.parse.proofs.body_from.Goals as goal
 

@@ -1,8 +1,7 @@
 -- `parse::body_from` meets its contract. The loop stores one block of eight bytes after the other.
 -- Assumes nothing.
 use Prim.Native.Nat.{◌-◌}
-use Rattle.parse.proofs.Reading.{Bodied, bodied_none, bodied_more, bodied_all, digits_part, part_16}
-use borrow.Author.Rules.{rules}
+use Rattle.parse.proofs.Reading.{Bodied}
 use Rattle.parse.proofs.body_from.Given as goal
 
 abbrev pub invariant-loop-i : goal.invariant-loop-i

@@ -1,7 +1,6 @@
 -- `parse::byte_at` meets its contract: the two characters are digits.
 -- Assumes nothing.
 use Rattle.parse.proofs.Digits.{byte_made, digits_at}
-use borrow.Author.Rules.{rules}
 use Rattle.parse.proofs.byte_at.Goals as goal
 
 pub value_of-requires : goal.value_of-requires

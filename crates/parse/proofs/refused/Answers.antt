@@ -1,7 +1,6 @@
 -- `parse::refused` meets its contract: the digest is the all-zero one.
 -- Assumes nothing.
 use Rattle.parse.proofs.Reading.{refused_is}
-use borrow.Author.Rules.{rules}
 use Rattle.parse.proofs.refused.Goals as goal
 
 pub returns : goal.returns

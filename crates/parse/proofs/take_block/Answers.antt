@@ -1,8 +1,6 @@
 -- `parse::take_block` meets its contract. The loop stores one byte after the other.
 -- Assumes nothing.
-use Prim.Native.Nat.{◌-◌}
-use Rattle.parse.proofs.Reading.{Taken, taken_none, taken_more, taken_all}
-use borrow.Author.Rules.{rules}
+use Rattle.parse.proofs.Reading.{taken_none, taken_more, taken_all}
 use Rattle.parse.proofs.take_block.Goals as goal
 
 pub loop-j-init : goal.loop-j-init

@@ -1,8 +1,7 @@
 -- `parse::take_block` meets its contract. The loop stores one byte after the other.
 -- Assumes nothing.
 use Prim.Native.Nat.{◌-◌}
-use Rattle.parse.proofs.Reading.{Taken, taken_none, taken_more, taken_all}
-use borrow.Author.Rules.{rules}
+use Rattle.parse.proofs.Reading.{Taken}
 use Rattle.parse.proofs.take_block.Given as goal
 
 abbrev pub invariant-loop-j : goal.invariant-loop-j

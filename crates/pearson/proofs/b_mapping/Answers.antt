@@ -1,7 +1,6 @@
 -- `pearson::b_mapping` meets its contract: four bytes in turn.
 -- Assumes nothing.
 use Rattle.pearson.specs.Mapping.{bucket, mapping}
-use borrow.Author.Rules.{rules}
 use Rattle.pearson.proofs.b_mapping.Goals as goal
 
 pub returns : goal.returns

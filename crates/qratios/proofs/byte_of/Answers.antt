@@ -1,6 +1,5 @@
 -- `qratios::byte_of` meets its contract.
 -- Assumes nothing.
-use Rattle.std.proofs.Common.{rules}
 use Rattle.qratios.proofs.Answers.{first_fit, second_fit, byte_made}
 use Rattle.qratios.proofs.byte_of.Goals as goal
 

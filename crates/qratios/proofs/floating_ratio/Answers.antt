@@ -1,6 +1,5 @@
 -- `qratios::floating_ratio` meets its contract.
 -- Assumes nothing.
-use Rattle.std.proofs.Common.{rules}
 use Rattle.qratios.proofs.Answers.{quotient_low, floating_made}
 use Rattle.qratios.proofs.floating_ratio.Goals as goal
 

@@ -1,6 +1,5 @@
 -- `qratios::quartile_ratios` meets its contract.
 -- Assumes nothing.
-use Rattle.std.proofs.Common.{rules}
 use Rattle.qratios.proofs.Answers.{test_passes, ratios_refused, ratios_given}
 use Rattle.qratios.proofs.quartile_ratios.Goals as goal
 

@@ -1,6 +1,5 @@
 -- `qratios::quotient` meets its contract.
 -- Assumes nothing.
-use Rattle.std.proofs.Common.{rules}
 use Rattle.qratios.proofs.Answers.{quotient_made}
 use Rattle.qratios.proofs.quotient.Goals as goal
 

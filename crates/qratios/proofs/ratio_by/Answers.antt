@@ -1,6 +1,5 @@
 -- `qratios::ratio_by` meets its contract.
 -- Assumes nothing.
-use Rattle.std.proofs.Common.{rules}
 use Rattle.qratios.proofs.Answers.{by_integer, by_floating}
 use Rattle.qratios.proofs.ratio_by.Goals as goal
 

@@ -1,6 +1,5 @@
 -- `qratios::ratios_byte` meets its contract.
 -- Assumes nothing.
-use Rattle.std.proofs.Common.{rules}
 use Rattle.qratios.proofs.Answers.{test_passes, byte_refused, byte_given}
 use Rattle.qratios.proofs.ratios_byte.Goals as goal
 

@@ -1,6 +1,5 @@
 -- `qratios::whole_of_bits` meets its contract.
 -- Assumes nothing.
-use Rattle.std.proofs.Common.{rules}
 use Rattle.qratios.proofs.Truncate.{whole_below_one, whole_from_one}
 use Rattle.qratios.proofs.whole_of_bits.Goals as goal
 

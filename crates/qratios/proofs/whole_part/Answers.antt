@@ -1,6 +1,5 @@
 -- `qratios::whole_part` meets its contract.
 -- Assumes nothing.
-use Rattle.std.proofs.Common.{rules}
 use Rattle.qratios.proofs.Truncate.{low_no_nan}
 use Rattle.qratios.proofs.whole_part.Goals as goal
 

@@ -1,8 +1,6 @@
 -- `replay_inputs::feed_pieces` meets its contract. The loop feeds one piece after the other.
 -- Assumes nothing.
-use Prim.Native.Nat.{◌-◌}
-use Rattle.replay_inputs.proofs.Making.{Taken, taken_none, taken_more, taken_all}
-use borrow.Author.Rules.{rules}
+use Rattle.replay_inputs.proofs.Making.{taken_none, taken_more, taken_all}
 use Rattle.replay_inputs.proofs.feed_pieces.Goals as goal
 
 pub loop-i-init : goal.loop-i-init

@@ -1,8 +1,7 @@
 -- `replay_inputs::feed_pieces` meets its contract. The loop feeds one piece after the other.
 -- Assumes nothing.
 use Prim.Native.Nat.{◌-◌}
-use Rattle.replay_inputs.proofs.Making.{Taken, taken_none, taken_more, taken_all}
-use borrow.Author.Rules.{rules}
+use Rattle.replay_inputs.proofs.Making.{Taken}
 use Rattle.replay_inputs.proofs.feed_pieces.Given as goal
 
 abbrev pub invariant-loop-i : goal.invariant-loop-i

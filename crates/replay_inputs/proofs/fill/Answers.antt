@@ -1,7 +1,6 @@
 -- `replay_inputs::fill` meets its contract. The loop stores one byte after the other.
 -- Assumes nothing.
-use Prim.Native.Nat.{◌-◌}
-use Rattle.replay_inputs.proofs.Making.{Filled, filled_none, filled_more, filled_draws, filled_holds}
+use Rattle.replay_inputs.proofs.Making.{filled_none, filled_more, filled_draws, filled_holds}
 use borrow.Author.Rules.{rules}
 use Rattle.replay_inputs.proofs.fill.Goals as goal
 

@@ -1,7 +1,6 @@
 -- `replay_verdict::judge_line` meets its contract: each way out is that of the definition.
 -- Assumes nothing.
 use Rattle.replay_verdict.proofs.Line.{verdict_malformed, verdict_same, verdict_differs}
-use borrow.Author.Rules.{rules}
 use Rattle.replay_verdict.proofs.judge_line.Goals as goal
 
 pub returns-then-not-q : goal.returns-then-not-q

@@ -1,7 +1,6 @@
 -- `replay_verdict::state_of` meets its contract.
 -- Assumes nothing.
 use Rattle.replay_verdict.proofs.Line.{state_is}
-use borrow.Author.Rules.{rules}
 use Rattle.replay_verdict.proofs.state_of.Goals as goal
 
 pub returns : goal.returns

@@ -1,10 +1,6 @@
 -- `replay_words::all_decimal` meets its contract. The loop tests one character after the other.
 -- Assumes nothing.
-use Prim.Native.Nat.{◌-◌}
-use lib.ListN.{length}
-use Rattle.replay_words.proofs.Words.{Tested, tested_none, tested_more, tested_all}
-use borrow.Author.Rules.{rules}
-use Rattle.replay_words.proofs.is_decimal.Reads as is-decimal-reads
+use Rattle.replay_words.proofs.Words.{tested_none, tested_more, tested_all}
 use Rattle.replay_words.proofs.all_decimal.Goals as goal
 
 pub loop-i-init : goal.loop-i-init

@@ -2,9 +2,7 @@
 -- Assumes nothing.
 use Prim.Native.Nat.{◌-◌}
 use lib.ListN.{length}
-use Rattle.replay_words.proofs.Words.{Tested, tested_none, tested_more, tested_all}
-use borrow.Author.Rules.{rules}
-use Rattle.replay_words.proofs.is_decimal.Reads as is-decimal-reads
+use Rattle.replay_words.proofs.Words.{Tested}
 use Rattle.replay_words.proofs.all_decimal.Given as goal
 
 abbrev pub invariant-loop-i : goal.invariant-loop-i

@@ -1,10 +1,6 @@
 -- `replay_words::decimal` meets its contract. The loop takes one digit after the other.
 -- Assumes nothing.
-use Prim.Native.Nat.{◌-◌}
-use lib.ListN.{length}
-use Rattle.replay_words.proofs.Words.{Said, said_none, said_digit, said_more, said_all}
-use borrow.Author.Rules.{rules}
-use Rattle.replay_words.proofs.decimal_value.Reads as decimal-value-reads
+use Rattle.replay_words.proofs.Words.{said_none, said_digit, said_more, said_all}
 use Rattle.replay_words.proofs.decimal.Goals as goal
 
 pub loop-i-init : goal.loop-i-init

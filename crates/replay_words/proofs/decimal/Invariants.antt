@@ -2,9 +2,7 @@
 -- Assumes nothing.
 use Prim.Native.Nat.{◌-◌}
 use lib.ListN.{length}
-use Rattle.replay_words.proofs.Words.{Said, said_none, said_digit, said_more, said_all}
-use borrow.Author.Rules.{rules}
-use Rattle.replay_words.proofs.decimal_value.Reads as decimal-value-reads
+use Rattle.replay_words.proofs.Words.{Said}
 use Rattle.replay_words.proofs.decimal.Given as goal
 
 abbrev pub invariant-loop-i : goal.invariant-loop-i

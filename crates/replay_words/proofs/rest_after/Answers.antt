@@ -1,7 +1,6 @@
 -- `replay_words::rest_after` meets its contract.
 -- Assumes nothing.
 use Rattle.replay_words.proofs.Words.{rest_is, rest_at_lem}
-use borrow.Author.Rules.{rules}
 use Rattle.replay_words.proofs.rest_after.Goals as goal
 
 pub returns : goal.returns

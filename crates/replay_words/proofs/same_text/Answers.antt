@@ -1,9 +1,6 @@
 -- `replay_words::same_text` meets its contract. The loop compares one character after the other.
 -- Assumes nothing.
-use Prim.Native.Nat.{◌-◌}
-use lib.ListN.{length}
-use Rattle.replay_words.proofs.Words.{Alike, alike_none, alike_more, alike_all, unlike}
-use borrow.Author.Rules.{rules}
+use Rattle.replay_words.proofs.Words.{alike_none, alike_more, alike_all, unlike}
 use Rattle.replay_words.proofs.same_text.Goals as goal
 
 pub returns-then-a-b : goal.returns-then-a-b

@@ -2,8 +2,7 @@
 -- Assumes nothing.
 use Prim.Native.Nat.{◌-◌}
 use lib.ListN.{length}
-use Rattle.replay_words.proofs.Words.{Alike, alike_none, alike_more, alike_all, unlike}
-use borrow.Author.Rules.{rules}
+use Rattle.replay_words.proofs.Words.{Alike}
 use Rattle.replay_words.proofs.same_text.Given as goal
 
 abbrev pub invariant-loop-i : goal.invariant-loop-i

@@ -1,6 +1,6 @@
 -- `replay_words::start_of` meets its contract. The loop passes one word after the other.
 -- Assumes nothing.
-use Rattle.replay_words.proofs.Words.{Walked, walked_none, walked_more, walked_all}
+use Rattle.replay_words.proofs.Words.{walked_none, walked_more, walked_all}
 use borrow.Author.Rules.{rules}
 use Rattle.replay_words.proofs.start_of.Goals as goal
 

@@ -1,8 +1,6 @@
 -- `replay_words::word_size` meets its contract. The loop looks for a space.
 -- Assumes nothing.
-use Prim.Native.Nat.{◌-◌}
-use lib.ListN.{length}
-use Rattle.replay_words.proofs.Words.{Sought, sought_none, sought_more, sought_here, sought_end}
+use Rattle.replay_words.proofs.Words.{sought_none, sought_more, sought_here, sought_end}
 use borrow.Author.Rules.{rules}
 use Rattle.replay_words.proofs.word_size.Goals as goal
 

@@ -2,8 +2,7 @@
 -- Assumes nothing.
 use Prim.Native.Nat.{◌-◌}
 use lib.ListN.{length}
-use Rattle.replay_words.proofs.Words.{Sought, sought_none, sought_more, sought_here, sought_end}
-use borrow.Author.Rules.{rules}
+use Rattle.replay_words.proofs.Words.{Sought}
 use Rattle.replay_words.proofs.word_size.Given as goal
 
 abbrev pub invariant-loop-i : goal.invariant-loop-i

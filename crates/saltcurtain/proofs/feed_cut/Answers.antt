@@ -1,6 +1,5 @@
 -- `saltcurtain::feed_cut` meets its contract.
 -- Assumes nothing.
-use borrow.Author.Rules.{rules}
 use Rattle.saltcurtain.proofs.feed_cut.Goals as goal
 
 pub returns-then-piece-eq0 : goal.returns-then-piece-eq0

@@ -1,9 +1,6 @@
 -- `saltcurtain::feed_pieces` meets its contract: after i bytes the state is that of one update with them.
 -- Assumes nothing.
-use Prim.Native.Nat.{◌-◌}
-use lib.ListN.{length}
-use Rattle.saltcurtain.proofs.Laws.{Fed, fed_none, fed_more, fed_all}
-use borrow.Author.Rules.{rules}
+use Rattle.saltcurtain.proofs.Laws.{fed_none, fed_more, fed_all}
 use Rattle.saltcurtain.proofs.feed_pieces.Goals as goal
 
 pub loop-i-init : goal.loop-i-init

@@ -2,8 +2,7 @@
 -- Assumes nothing.
 use Prim.Native.Nat.{◌-◌}
 use lib.ListN.{length}
-use Rattle.saltcurtain.proofs.Laws.{Fed, fed_none, fed_more, fed_all}
-use borrow.Author.Rules.{rules}
+use Rattle.saltcurtain.proofs.Laws.{Fed}
 use Rattle.saltcurtain.proofs.feed_pieces.Given as goal
 
 abbrev pub invariant-loop-i : goal.invariant-loop-i

@@ -1,7 +1,6 @@
 -- `saltcurtain::finish` meets its contract.
 -- Assumes nothing.
 use Rattle.saltcurtain.proofs.Laws.{given_refused, given_done}
-use borrow.Author.Rules.{rules}
 use Rattle.saltcurtain.proofs.finish.Goals as goal
 
 pub returns-then-f-ne-DONE : goal.returns-then-f-ne-DONE

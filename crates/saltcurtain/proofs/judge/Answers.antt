@@ -1,7 +1,6 @@
 -- `saltcurtain::judge` meets its contract: 10, then 6, then 7.
 -- Assumes nothing.
 use Rattle.saltcurtain.proofs.Laws.{argument_options, argument_variant, argument_room, argument_done}
-use borrow.Author.Rules.{rules}
 use Rattle.saltcurtain.proofs.judge.Goals as goal
 
 pub returns-then-o-ne-DONE : goal.returns-then-o-ne-DONE

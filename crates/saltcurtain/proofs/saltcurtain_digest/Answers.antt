@@ -1,7 +1,6 @@
 -- `saltcurtain::saltcurtain_digest` meets its contract.
 -- Assumes nothing.
 use Rattle.saltcurtain.proofs.Laws.{digested_refused, digested_done}
-use borrow.Author.Rules.{rules}
 use Rattle.saltcurtain.proofs.saltcurtain_digest.Goals as goal
 
 pub returns-then-number-ne-DONE : goal.returns-then-number-ne-DONE

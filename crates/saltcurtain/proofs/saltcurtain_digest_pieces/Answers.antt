@@ -1,7 +1,6 @@
 -- `saltcurtain::saltcurtain_digest_pieces` meets its contract.
 -- Assumes nothing.
 use Rattle.saltcurtain.proofs.Laws.{digested_refused, digested_cut}
-use borrow.Author.Rules.{rules}
 use Rattle.saltcurtain.proofs.saltcurtain_digest_pieces.Goals as goal
 
 pub returns-then-number-ne-DONE : goal.returns-then-number-ne-DONE

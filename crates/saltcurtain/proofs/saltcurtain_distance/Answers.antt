@@ -1,7 +1,6 @@
 -- `saltcurtain::saltcurtain_distance` meets its contract: 6 and 12, then 8 and 9 of each text.
 -- Assumes nothing.
 use Rattle.saltcurtain.proofs.Distance.{texts_refused, texts_first, texts_second, texts_done}
-use borrow.Author.Rules.{rules}
 use Rattle.saltcurtain.proofs.saltcurtain_distance.Goals as goal
 
 pub returns-then-number-ne-DONE : goal.returns-then-number-ne-DONE

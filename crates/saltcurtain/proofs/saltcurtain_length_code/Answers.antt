@@ -1,7 +1,6 @@
 -- `saltcurtain::saltcurtain_length_code` meets its contract.
 -- Assumes nothing.
 use Rattle.saltcurtain.proofs.Laws.{code_refused, code_done}
-use borrow.Author.Rules.{rules}
 use Rattle.saltcurtain.proofs.saltcurtain_length_code.Goals as goal
 
 pub returns-then-c-ne-DONE : goal.returns-then-c-ne-DONE

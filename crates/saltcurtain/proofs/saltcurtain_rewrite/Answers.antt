@@ -1,7 +1,6 @@
 -- `saltcurtain::saltcurtain_rewrite` meets its contract: 6, then 7, then 8 and 9.
 -- Assumes nothing.
 use Rattle.saltcurtain.proofs.Laws.{rewritten_variant, rewritten_room, rewritten_refused, rewritten_done}
-use borrow.Author.Rules.{rules}
 use Rattle.saltcurtain.proofs.saltcurtain_rewrite.Goals as goal
 
 pub returns-then-text_size-ne-DONE : goal.returns-then-text_size-ne-DONE

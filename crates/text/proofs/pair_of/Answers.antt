@@ -1,7 +1,6 @@
 -- `text::pair_of` meets its contract: a test of all pairs shows that the sum is the number of both characters.
 -- Assumes nothing.
 use Rattle.text.proofs.Characters.{pair_made_lem}
-use borrow.Author.Rules.{rules}
 use Rattle.text.proofs.pair_of.Goals as goal
 
 pub returns : goal.returns

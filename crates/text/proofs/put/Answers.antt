@@ -1,7 +1,6 @@
 -- `text::put` meets its contract: it makes two stores.
 -- Assumes nothing.
 use Rattle.text.proofs.Writing.{two_stored, second_within}
-use borrow.Author.Rules.{rules}
 use Rattle.text.proofs.put.Goals as goal
 
 pub bounds-destination-at-2 : goal.bounds-destination-at-2

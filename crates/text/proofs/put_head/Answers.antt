@@ -1,7 +1,6 @@
 -- `text::put_head` meets its contract: its stores are those of the head, one after the other.
 -- Assumes nothing.
 use Rattle.text.proofs.Writing.{head_stored}
-use borrow.Author.Rules.{rules}
 use Rattle.text.proofs.put_head.Goals as goal
 
 pub returns : goal.returns

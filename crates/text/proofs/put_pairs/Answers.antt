@@ -1,8 +1,6 @@
 -- `text::put_pairs` meets its contract. The loop stores one pair after the other.
 -- Assumes nothing.
-use Prim.Native.Nat.{◌-◌}
-use Rattle.text.proofs.Apart.{Puts, puts_none, puts_more, pair_within, puts_all}
-use borrow.Author.Rules.{rules}
+use Rattle.text.proofs.Apart.{puts_none, puts_more, pair_within, puts_all}
 use Rattle.text.proofs.put_pairs.Goals as goal
 
 pub loop-i-init : goal.loop-i-init

@@ -1,8 +1,7 @@
 -- `text::put_pairs` meets its contract. The loop stores one pair after the other.
 -- Assumes nothing.
 use Prim.Native.Nat.{◌-◌}
-use Rattle.text.proofs.Apart.{Puts, puts_none, puts_more, pair_within, puts_all}
-use borrow.Author.Rules.{rules}
+use Rattle.text.proofs.Apart.{Puts}
 use Rattle.text.proofs.put_pairs.Given as goal
 
 abbrev pub invariant-loop-i : goal.invariant-loop-i

@@ -1,8 +1,7 @@
 -- `text::rows_of` meets its contract. The loop stores the two digits of one byte after the other.
 -- Assumes nothing.
 use Prim.Native.Nat.{◌-◌}
-use Rattle.text.proofs.Apart.{Rowed, rowed_none, rowed_more, rowed_all}
-use borrow.Author.Rules.{rules}
+use Rattle.text.proofs.Apart.{Rowed}
 use Rattle.text.proofs.rows_of.Given as goal
 
 abbrev pub invariant-loop-i : goal.invariant-loop-i

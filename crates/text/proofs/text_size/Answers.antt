@@ -1,7 +1,6 @@
 -- `text::text_size` meets its contract.
 -- Assumes nothing.
 use Rattle.text.proofs.Writing.{size_6, size_0}
-use borrow.Author.Rules.{rules}
 use Rattle.text.proofs.text_size.Goals as goal
 
 pub returns-then-not-is_known : goal.returns-then-not-is_known

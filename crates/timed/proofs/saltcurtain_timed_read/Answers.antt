@@ -2,7 +2,6 @@
 -- Assumes nothing.
 use mathlib.Core.Path.{ap}
 use Rattle.parse.specs.declared.ReadAnswer.{ReadAnswer}
-use borrow.Author.Rules.{rules}
 use Rattle.timed.proofs.saltcurtain_timed_read.Goals as goal
 
 pub returns : goal.returns
