@@ -14,7 +14,7 @@ fn main() {
         println!("cargo::rustc-link-lib=static=saltcurtain");
     } else {
         println!(
-            "cargo::error=no {}: `rt staticlib saltcurtain` in the project's root makes it, or SALTCURTAIN_LIB names its folder",
+            "cargo::error=no {}: `tools/build saltcurtain` in the project's root makes it, or SALTCURTAIN_LIB names its folder",
             archive.display()
         );
     }

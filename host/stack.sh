@@ -1,6 +1,6 @@
 #!/usr/bin/env bash
 # host/stack.sh: how deep each entry point goes into the stack, for each variant and several lengths, by painting it (stack.c).
-# It needs gcc and the static library (`rt staticlib saltcurtain`), and no oracle. Every symbol is bound at the start (`-z now`), so
+# It needs gcc and the static library (`tools/build saltcurtain`), and no oracle. Every symbol is bound at the start (`-z now`), so
 # that the dynamic linker's own depth is not measured. Exit status: 1 it does not build or a call is refused, 77 there is no gcc.
 set -euo pipefail
 here=$(cd "$(dirname "$0")" && pwd)

@@ -35,7 +35,7 @@ fn link_timed() -> Result<(), String> {
     println!("cargo::rerun-if-env-changed=SALTCURTAIN_LIB");
     println!("cargo::rerun-if-changed={}", archive.display());
     if !archive.is_file() {
-        return Err("no libtimed.a (`rt staticlib timed` makes it)".into());
+        return Err("no libtimed.a (`tools/build timed` makes it)".into());
     }
     println!("cargo::rustc-link-search=native={}", folder.display());
     println!("cargo::rustc-link-lib=static=timed");
