@@ -9,7 +9,7 @@ use Rattle.params.specs.Answers.{done, unordered_quartiles}
 use Rattle.qratios.specs.declared.Ratios.{Ratios}
 use Rattle.qratios.specs.declared.RatiosAnswer.{RatiosAnswer}
 use Rattle.qratios.specs.declared.ByteAnswer.{ByteAnswer}
-use Rattle.qratios.specs.Single.{nought, whole, from_bits, single}
+use Rattle.qratios.specs.Single.{nought, whole, single_from_bits, single}
 use Rattle.qratios.specs.Ratios.{float, reduced, quotient, integer_whole, floating_whole, ratio_by, ratios_byte, UpTo, ordered}
 use Rattle.qratios.specs.Ratios.{record_of, ratios_of, byte_answered}
 use Rattle.qratios.proofs.Rounding.{below_or_not}
@@ -97,18 +97,18 @@ quotient_low q q3 x b r-lt e = low_of_float x (quotient q q3) (truncates q q3 b.
 
 -- they give its whole part
 pub quotient_whole : (q q3 : ℕ) (x : Float) (w : ℕ) → UpTo q q3 → q3 < 2 ^ 32 → x ≡ float (quotient q q3)
-    → w ≡ whole (from_bits (to_bits binary32 x)) → w ≡ floating_whole q q3
+    → w ≡ whole (single_from_bits (to_bits binary32 x)) → w ≡ floating_whole q q3
 quotient_whole q q3 x w b r-lt e f = f ∙ whole_of_float x (quotient q q3) (truncates q q3 b.some r-lt b.most) e
 
 -- and so its ratio
 pub floating_made : (q q3 : ℕ) (x : Float) (w : ℕ) → UpTo q q3 → q3 < 2 ^ 32 → x ≡ float (quotient q q3)
-    → w ≡ whole (from_bits (to_bits binary32 x)) → w % 16 ≡ floating_whole q q3 % 16
+    → w ≡ whole (single_from_bits (to_bits binary32 x)) → w % 16 ≡ floating_whole q q3 % 16
 floating_made q q3 x w b r-lt e f = rw (quotient_whole q q3 x w b r-lt e f)
 
 -- two quotients and their whole parts make the ratio record
 pub record_made : (q1 q2 q3 : ℕ) (x1 x2 : Float) (w1 w2 : ℕ) → ordered q1 q2 q3 ≡ true → q3 < 2 ^ 32
     → x1 ≡ float (quotient q1 q3) → x2 ≡ float (quotient q2 q3)
-    → w1 ≡ whole (from_bits (to_bits binary32 x1)) → w2 ≡ whole (from_bits (to_bits binary32 x2))
+    → w1 ≡ whole (single_from_bits (to_bits binary32 x1)) → w2 ≡ whole (single_from_bits (to_bits binary32 x2))
     → record { quotient1 = x1; quotient2 = x2; whole1 = w1; whole2 = w2 } ≡ record_of (quotient q1 q3) (quotient q2 q3)
 record_made q1 q2 q3 x1 x2 w1 w2 o r-lt e1 e2 f1 f2 =
     rw (quotient_whole q1 q3 x1 w1 (first_fit q1 q2 q3 o) r-lt e1 f1, quotient_whole q2 q3 x2 w2 (second_fit q1 q2 q3 o) r-lt e2 f2, e1, e2)

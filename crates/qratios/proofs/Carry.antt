@@ -2,7 +2,7 @@
 -- Assumes nothing.
 use Rattle.std.proofs.Common.{◌≡◌, ℕ, zero, suc, ◌+◌, ◌-◌, ◌*◌, ◌/◌, ◌%◌, ◌^◌, ◌<◌, ◌≤◌, Bool, true, false, cond, not, T, ltb, ◌⊎◌, sym, refl, ap, ◌∙◌, inl, inr, le_refl, mul_assoc, mul_comm, eq-zero-or-pos, le_antisymm, mul_right_comm, arith, lit<, ltb→lt, nltb→le, le-ltb, ne_eqb}
 use native.Mathlib.Nat.{pow-succ'}
-use Rattle.qratios.specs.Single.{Single, top, bottom, bits, from_bits, twice, carried, single}
+use Rattle.qratios.specs.Single.{Single, top, bottom, bits, single_from_bits, twice, carried, single}
 use Rattle.qratios.specs.Demands.{BitsGiveBack}
 use Rattle.qratios.proofs.Shape.{Shape, shape, single_zero}
 
@@ -22,7 +22,7 @@ normal_bits x h = rw (ne_eqb x.sig 0 (λ e. omega arith))
 
 -- the three parts, from the bits
 from_fields : (b s t o : ℕ) → b ≡ (150 + t - o) * 8388608 + (s - 8388608) → 8388608 ≤ s → s < 16777216 → o ≤ 100 → (t ≡ 0) ⊎ (o ≡ 0)
-    → from_bits b ≡ record { sig = s; times = t; over = o }
+    → single_from_bits b ≡ record { sig = s; times = t; over = o }
 from_fields b s t o e lo hi k side =
     rw (le-ltb b 8388608 (omega arith), f, g, a, p, q)
   where
@@ -42,7 +42,7 @@ from_fields b s t o e lo hi k side =
     q = elim side [ inl z ↦ omega arith | inr z ↦ omega arith ]
 
 -- its bits give it back
-pub normal_back : (x : Single) → Normal x → from_bits (bits x) ≡ x
+pub normal_back : (x : Single) → Normal x → single_from_bits (bits x) ≡ x
 normal_back x h =
     from_fields (bits x) x.sig x.times x.over (normal_bits x h.sig_ge) h.sig_ge h.sig_lt h.over_le h.one_side
 

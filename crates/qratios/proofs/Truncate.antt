@@ -6,7 +6,7 @@ use lib.Bits.{bit_and, bit_or, and_mask, or_shifted_r}
 use lib.Ieee.{Float, nan, inf, fin, binary32, is_nan, to_bits, of_int, to_unsigned, div}
 use lib.Ieee.Bits.{to_bits-of_bits}
 use lib.Ieee.Exact.{HasValue}
-use Rattle.qratios.specs.Single.{Single, nought, top, bottom, whole, bits, from_bits, single, divided}
+use Rattle.qratios.specs.Single.{Single, nought, top, bottom, whole, bits, single_from_bits, single, divided}
 use Rattle.qratios.specs.Ratios.{float, reduced, quotient, floating_whole}
 use Rattle.qratios.proofs.Rounding.{below_or_not}
 use Rattle.qratios.proofs.Shape.{single_zero}
@@ -18,13 +18,13 @@ use Rattle.qratios.proofs.Ieee.{float_value, zero_value, quotient_ieee, truncate
 -- ---- what the code works out of the bits
 
 -- the significand over the power of two that the eight bits give
-whole_of_fields : (b : ℕ) → 8388608 ≤ b → b < 0x4b80_0000 → whole (from_bits b) ≡ (8388608 + b % 8388608) / 2 ^ (150 - b / 8388608)
+whole_of_fields : (b : ℕ) → 8388608 ≤ b → b < 0x4b80_0000 → whole (single_from_bits b) ≡ (8388608 + b % 8388608) / 2 ^ (150 - b / 8388608)
 whole_of_fields b lo hi =
     let flat : b / 8388608 - 150 ≡ 0 = omega arith in
     rw (le-ltb b 8388608 lo, flat, mul-one (8388608 + b % 8388608))
 
 -- below the bits of 1 there is no whole part
-pub whole_below_one : (b : ℕ) → b < 0x3f80_0000 → 0 ≡ whole (from_bits b)
+pub whole_below_one : (b : ℕ) → b < 0x3f80_0000 → 0 ≡ whole (single_from_bits b)
 whole_below_one b h =
     elim (below_or_not b 8388608) [
       | inl l ↦ rw (lt-ltb b 8388608 l)
@@ -40,7 +40,7 @@ significand_is b = ap (λ k. bit_or k (2 ^ 23)) (and_mask b 23) ∙ or_shifted_r
 
 -- from there on it is the significand, shifted
 pub whole_from_one : (b : ℕ) → 0x3f80_0000 ≤ b → b < 0x4b80_0000
-    → bit_or (bit_and b 8388607) 8388608 / 2 ^ (150 - b / 8388608) ≡ whole (from_bits b)
+    → bit_or (bit_and b 8388607) 8388608 / 2 ^ (150 - b / 8388608) ≡ whole (single_from_bits b)
 whole_from_one b lo hi = rw (significand_is b) (sym (whole_of_fields b (omega arith) hi))
 
 -- ---- a number with a whole part below 2 ^ 24 has bits below those of 2 ^ 24
@@ -61,7 +61,7 @@ pub record Truncates (x : Single) : Type 0 where
   pub no_nan : T (not (is_nan (float x)))
   pub back : to_bits binary32 (float x) ≡ bits x
   pub low : bits x < 0x4b80_0000
-  pub is : from_bits (bits x) ≡ x
+  pub is : single_from_bits (bits x) ≡ x
   pub ieee : to_unsigned 32 (float x) ≡ whole x
 
 -- what has a value is no NaN
@@ -72,7 +72,7 @@ valued_no_nan (inf s) a c h = tt
 valued_no_nan (fin s m e) a c h = tt
 
 -- it does where its whole part is below 2 ^ 24
-truncates_value : (x : Single) → HasValue (float x) false (top x) (bottom x) → bits x < 0x4b80_0000 → from_bits (bits x) ≡ x
+truncates_value : (x : Single) → HasValue (float x) false (top x) (bottom x) → bits x < 0x4b80_0000 → single_from_bits (bits x) ≡ x
     → whole x < 16777216 → Truncates x
 truncates_value x v low is small =
     let n = valued_no_nan (float x) (top x) (bottom x) v in
@@ -121,7 +121,7 @@ pub low_of_float : (x : Float) (y : Single) → Truncates y → x ≡ float y �
 low_of_float x y k e = rw (e, k.back) k.low
 
 -- and give its whole part
-pub whole_of_float : (x : Float) (y : Single) → Truncates y → x ≡ float y → whole (from_bits (to_bits binary32 x)) ≡ whole y
+pub whole_of_float : (x : Float) (y : Single) → Truncates y → x ≡ float y → whole (single_from_bits (to_bits binary32 x)) ≡ whole y
 whole_of_float x y k e = rw (e, k.back, k.is)
 
 -- bits below those of 2 ^ 24 are no NaN's

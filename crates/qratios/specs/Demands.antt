@@ -3,7 +3,7 @@
 use Rattle.std.specs.Prelude.{◌≡◌, ℕ, suc, ◌+◌, ◌*◌, ◌%◌, ◌^◌, ◌<◌, ◌≤◌, true, false}
 use Rattle.params.specs.Words.{apart}
 use Rattle.params.specs.Answers.{done}
-use Rattle.qratios.specs.Single.{Single, top, bottom, bits, from_bits, single}
+use Rattle.qratios.specs.Single.{Single, top, bottom, bits, single_from_bits, single}
 use Rattle.qratios.specs.Ratios.{integer_whole, floating_whole, ratios_of, byte_answered}
 
 -- ---- the single-precision number nearest to n / d, for an n and a d below 2 ^ 64
@@ -18,7 +18,7 @@ Same x y = top x * bottom y ≡ top y * bottom x
 
 -- `single n d` has the form that 32 bits give: its bits give it back
 abbrev pub BitsGiveBack : Type 0
-BitsGiveBack = (n d : ℕ) → 0 < d → n < 2 ^ 64 → d < 2 ^ 64 → from_bits (bits (single n d)) ≡ single n d
+BitsGiveBack = (n d : ℕ) → 0 < d → n < 2 ^ 64 → d < 2 ^ 64 → single_from_bits (bits (single n d)) ≡ single n d
 
 -- no number with a significand below 16,777,216, and so no f32, lies nearer to n / d; both distances stand over d and both bottoms
 abbrev pub NoNearer : Type 0

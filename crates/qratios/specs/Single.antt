@@ -34,8 +34,8 @@ abbrev pub bits : Single → ℕ
 bits x = cond (x.sig == 0) 0 ((150 + x.times - x.over) * 8_388_608 + (x.sig - 8_388_608))
 
 -- the number of 32 bits with a clear sign; those whose eight bits are 0 stand for 0
-abbrev pub from_bits : ℕ → Single
-from_bits b =
+abbrev pub single_from_bits : ℕ → Single
+single_from_bits b =
     cond (nat_lt b 8_388_608) nought
     (record { sig = 8_388_608 + b % 8_388_608; times = b / 8_388_608 - 150; over = 150 - b / 8_388_608 })
 

@@ -6,7 +6,7 @@
 
 ghost use Rattle.std.specs.Prelude.{◌≡◌, ◌%◌, ◌<◌, true, to_bits};
 ghost use Rattle.std.specs.Float.{binary32};
-ghost use Rattle.qratios.specs.Single.{single, whole, from_bits};
+ghost use Rattle.qratios.specs.Single.{single, whole, single_from_bits};
 ghost use Rattle.qratios.specs.Ratios.{integer_whole, floating_whole, reduced, ratio_by, ratios_byte, UpTo, ordered};
 ghost use Rattle.qratios.specs.Ratios.{float, record_of, ratios_of, byte_answered};
 ghost use Rattle.qratios.specs.Ratios as R;
@@ -61,7 +61,7 @@ fn quotient(q: u32, q3: u32) -> f32
 // significand without its fraction. The bits of 2^24 are 151 * 2^23.
 fn whole_of_bits(b: u32) -> u32
     requires { b < 0x4b80_0000 }
-    ensures { result ≡ whole (from_bits b) }
+    ensures { result ≡ whole (single_from_bits b) }
 {
     if b < 0x3f80_0000 {
         return 0;
@@ -72,7 +72,7 @@ fn whole_of_bits(b: u32) -> u32
 // The whole part of an f32 that is not negative and is below 2^24, from its bits.
 fn whole_part(x: f32) -> u32
     requires { to_bits binary32 x < 0x4b80_0000 }
-    ensures { result ≡ whole (from_bits (to_bits binary32 x)) }
+    ensures { result ≡ whole (single_from_bits (to_bits binary32 x)) }
 {
     whole_of_bits(f32::to_bits(x))
 }

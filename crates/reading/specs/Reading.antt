@@ -1,6 +1,6 @@
 -- What a read promises, and what all the reads of a program come to.
 -- Assumes nothing.
-use Rattle.std.specs.Prelude.{◌≡◌, ℕ, zero, suc, ◌≤◌, List, [], ◌++◌, length, take, ℤ, pos, negsuc}
+use Rattle.std.specs.Prelude.{◌≡◌, ℕ, zero, suc, ◌≤◌, List, [], ◌++◌, length, take, ℤ, pos, negsuc, Result, Ok, Err}
 use Rattle.reading_seal.specs.Came.{Came}
 use Rattle.std.specs.Fd.{file_raw_fd}
 use Rattle.reading.specs.declared.Got.{Got}
@@ -8,9 +8,14 @@ use Rattle.reading.specs.declared.Input.{Input}
 use Rattle.reading.specs.declared.Input.TheVariants.{Standard, Opened}
 
 -- the file descriptor of what is read
-abbrev pub number_of : Input → ℤ
-number_of (Standard s) = pos 0
-number_of (Opened f) = file_raw_fd f.now
+abbrev pub descriptor_of : Input → ℤ
+descriptor_of (Standard s) = pos 0
+descriptor_of (Opened f) = file_raw_fd f.now
+
+-- the system's answer to a read, as the C library gives it: how many bytes, or -1 for an error
+abbrev pub answered : {E : Type 0} → Result ℕ E → ℤ
+answered (Ok n) = pos n
+answered (Err e) = negsuc 0
 
 -- what an answer of the C library's read says: bytes (0), the end (1), a failure (2)
 abbrev pub got_of : ℤ → Got

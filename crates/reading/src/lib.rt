@@ -3,7 +3,8 @@
 
 ghost use Rattle.std.specs.Prelude.{◌≡◌, ◌+◌, ◌%◌, ◌^◌};
 ghost use Rattle.std.specs.Io.{ReadsAtMost};
-ghost use Rattle.reading.specs.Reading.{Read, number_of};
+ghost use Rattle.reading_seal.specs.Came.{Came};
+ghost use Rattle.reading.specs.Reading.{Read, descriptor_of, answered};
 
 use std::fs::File;
 use std::io;
@@ -16,7 +17,7 @@ pub const END: u32 = 1;
 
 pub const FAILED: u32 = 2;
 
-// What is read: standard input, or an open file. `number_of` names its file descriptor.
+// What is read: standard input, or an open file. `descriptor_of` names its file descriptor.
 #[derive(Clone, Copy)]
 pub enum Input<'a> {
     Standard(Stdin),
@@ -30,9 +31,11 @@ pub struct Got {
     pub count: usize,
 }
 
-// What the system answers to one read into a block: how many bytes it put at the front, or an error.
-fn answer_of(input: Input, block: &mut [u8]) -> io::Result<usize>
-    ensures { ReadsAtMost result block.new }
+// One read, number `number` of the input: what the system answers to it, with the bytes that it counts at the front of the block.
+#[tactic(auto, using(reading_seal::specs::Came::came))]
+fn read_once(input: Input, number: u64, block: &mut [u8]) -> io::Result<usize>
+    ensures came { Came (descriptor_of input.entry) number block.new (answered result) }
+    ensures within { ReadsAtMost result block.new }
 {
     match input {
         Input::Standard(mut standard) => standard.read(block),
@@ -43,11 +46,12 @@ fn answer_of(input: Input, block: &mut [u8]) -> io::Result<usize>
 // One read of a file descriptor into a block. `reads` counts the reads, rolls over at 2^64, and is the number of this one.
 #[tactic(auto, using(crate::proofs::Laws::read_failed, crate::proofs::Laws::read_end, crate::proofs::Laws::read_more))]
 pub fn read_block(input: Input, reads: &mut u64, block: &mut [u8]) -> Got
-    ensures read { Read (number_of input.entry) reads.old block.new result }
+    ensures read { Read (descriptor_of input.entry) reads.old block.new result }
     ensures reads_after { reads.new ≡ (reads.old + 1) % 2 ^ 64 }
 {
-    *reads = reads.wrapping_add(1);
-    let Ok(count) = answer_of(input, block) else {
+    let number = *reads;
+    *reads = number.wrapping_add(1);
+    let Ok(count) = read_once(input, number, block) else {
         return Got {
             kind: FAILED,
             count: 0,

@@ -52,8 +52,8 @@ fn start_of(line: &[u8], count: usize) -> usize
 
 // What stands after so many words, where it stands in the line.
 pub fn rest_after(line: &[u8], count: usize) -> &[u8]
-    ensures result_value { result.now ≡ after_words count line.now }
-    ensures ref_ptr_value { result.ref_ptr ≡ into line.entry (rest_at count line.now) }
+    ensures content { result.now ≡ after_words count line.now }
+    ensures place { result.ref_ptr ≡ into line.entry (rest_at count line.now) }
 {
     let from = start_of(line, count);
     &line[from..]
@@ -61,8 +61,8 @@ pub fn rest_after(line: &[u8], count: usize) -> &[u8]
 
 // The word after so many words, where it stands in the line.
 pub fn word_after(line: &[u8], count: usize) -> &[u8]
-    ensures result_value { result.now ≡ first_word (after_words count line.now) }
-    ensures ref_ptr_value { result.ref_ptr ≡ into line.entry (rest_at count line.now) }
+    ensures content { result.now ≡ first_word (after_words count line.now) }
+    ensures place { result.ref_ptr ≡ into line.entry (rest_at count line.now) }
 {
     let rest = rest_after(line, count);
     let end = word_size(rest);

@@ -8,7 +8,7 @@ use base.Logic.{ent, sep}
 use contract.Monad.{fact}
 use Rattle.params.proofs.One.{One, OneAnswer, two_facts, one_answer}
 use Rattle.text.specs.Text.{Wrote, Written}
-use Rattle.text.specs.contracts.text_size as text_size_lem
+use Rattle.text.specs.contracts.text_size as text_size
 use Rattle.text.specs.contracts.write_text as write_text
 
 -- a number and the content of a destination, both equated, leave one of each
@@ -18,7 +18,7 @@ one_written 𝓤 w a b k l =
     two_facts 𝓤 (Written a k w) (Written b l w) (◌≡◌ {A = ℕ × List ℕ} (a, k) (b, l))
     (λ p q i. ((p.answered ∙ sym q.answered) i, (p.left ∙ sym q.left) i))
 
-one_text_size : OneAnswer text_size_lem.ended (λ M 𝓤. text_size_lem.clauses)
+one_text_size : OneAnswer text_size.ended (λ M 𝓤. text_size.clauses)
 one_text_size M 𝓤 𝓛 at_mem run κs a g h z y e f = one_answer 𝓤 _ z y
 
 one_write_text : One write_text.ended (λ M 𝓤. write_text.clauses) (ℕ × List ℕ) (λ κs z e. (z, e.1.0.now))

@@ -32,7 +32,7 @@ const T: [u8; 256] = [
     0x33, 0x41, 0x1c, 0x90, 0xfe, 0xdd, 0x5d, 0xbd, 0xc2, 0x8b, 0x70, 0x2b, 0x47, 0x6d, 0xb8, 0xd1,
 ];
 
-/// The largest third quartile up to which both paths give the same ratios, whatever the other two are (`wholes-agree` in
+/// The largest third quartile up to which both paths give the same ratios, whatever the other two are (`wholes_agree` in
 /// crates/qratios).
 const AGREEING: u32 = 262_146;
 

@@ -8,4 +8,4 @@ pub slice_bounds-result-end : goal.slice_bounds-result-end
 slice_bounds-result-end c = search (front_size, rules)
 
 pub returns : goal.returns
-returns c = record { result_value = search word_is; ref_ptr_value = search rules }
+returns c = record { content = search word_is; place = search rules }
