@@ -125,6 +125,13 @@ pub bracket_high : (xs : List ℕ) (k low high r : ℕ) → k < length xs → Br
 bracket_high xs k low high r h b c t =
     record { above = omega (arith, place_gt xs k (low + (high - low) / 2) h (omega arith)); below = b.below; fits = b.fits }
 
+-- and so from any number up to there
+pub bracket_up : (xs : List ℕ) (k low high r m : ℕ) → k < length xs → Bracket xs k low high
+    → r ≡ count_le (low + (high - low) / 2) xs → r ≤ k → m ≤ low + (high - low) / 2 + 1 → Bracket xs k m high
+bracket_up xs k low high r m h b c t u =
+    let from = bracket_high xs k low high r h b c t in
+    record { above = omega (arith, from.above); below = from.below; fits = from.fits }
+
 -- one number is left
 pub bracket_end : (xs : List ℕ) (k low high : ℕ) → Bracket xs k low high → high ≤ low → low ≡ place xs k
 bracket_end xs k low high b h = omega (arith, b.above, b.below)

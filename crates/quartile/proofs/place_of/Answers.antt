@@ -2,7 +2,7 @@
 -- Assumes nothing.
 use native.Mathlib.Omega.{arith}
 use Rattle.quartile.proofs.Order.{place_past}
-use Rattle.quartile.proofs.Laws.{bracket_start, bracket_low, bracket_high, bracket_end}
+use Rattle.quartile.proofs.Laws.{bracket_start, bracket_low, bracket_up, bracket_end}
 use Rattle.quartile.proofs.place_of.Goals as goal
 
 pub returns-then-used-k : goal.returns-then-used-k
@@ -15,7 +15,9 @@ pub loop-low-preserved-then-k-count_le : goal.loop-low-preserved-then-k-count_le
 loop-low-preserved-then-k-count_le c = search bracket_low
 
 pub loop-low-preserved : goal.loop-low-preserved
-loop-low-preserved c = search bracket_high
+loop-low-preserved c =
+    bracket_up c.args.used.now c.args.k c.loop-low.low c.loop-low.high c.count_le.result _ c.if-used-k.false c.loop-low.invariant
+    c.count_le.ensures c.if-k-count_le.false (omega arith)
 
 pub returns : goal.returns
 returns c = search bracket_end
