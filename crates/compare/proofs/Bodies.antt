@@ -28,15 +28,15 @@ add_low (suc n) s t w u p q h =
     let e : (s + t) / 256 ≡ s / 256 + t / 256 = omega arith in
     (omega arith, rw e (add_low n (s / 256) (t / 256) w u p.1 q.1 h))
 
-add-sum : (n s t w u : ℕ) → Low n w s → Low n u t → w + u < 256 → lane_sum n (s + t) ≡ lane_sum n s + lane_sum n t
+add_sum : (n s t w u : ℕ) → Low n w s → Low n u t → w + u < 256 → lane_sum n (s + t) ≡ lane_sum n s + lane_sum n t
 unfolding lane_sum
-add-sum zero s t w u p q h = refl
-add-sum (suc n) s t w u p q h =
+add_sum zero s t w u p q h = refl
+add_sum (suc n) s t w u p q h =
     let a = p.0 in
     let b = q.0 in
     let e : (s + t) / 256 ≡ s / 256 + t / 256 = omega arith in
     let f : (s + t) % 256 ≡ s % 256 + t % 256 = omega arith in
-    let r = add-sum n (s / 256) (t / 256) w u p.1 q.1 h in
+    let r = add_sum n (s / 256) (t / 256) w u p.1 q.1 h in
     rw (e, f) (omega (arith, r))
 
 -- n and k, counted down from n
@@ -224,9 +224,9 @@ module _ (xs ys : List ℕ) (i : ℕ) where
   -- 32 bytes
   four_sum : lane_sum 8 (four_costs xs ys i) ≡ cost_from 32 xs ys i
   four_sum =
-      let p = add-sum 8 (a₀ + a₁ + a₂) a₃ 72 24 low₃ (eight_low xs ys (i + 24)) (omega arith) in
-      let q = add-sum 8 (a₀ + a₁) a₂ 48 24 low₂ (eight_low xs ys (i + 16)) (omega arith) in
-      let r = add-sum 8 a₀ a₁ 24 24 (eight_low xs ys i) (eight_low xs ys (i + 8)) (omega arith) in
+      let p = add_sum 8 (a₀ + a₁ + a₂) a₃ 72 24 low₃ (eight_low xs ys (i + 24)) (omega arith) in
+      let q = add_sum 8 (a₀ + a₁) a₂ 48 24 low₂ (eight_low xs ys (i + 16)) (omega arith) in
+      let r = add_sum 8 a₀ a₁ 24 24 (eight_low xs ys i) (eight_low xs ys (i + 8)) (omega arith) in
       let f = from_more 8 24 xs ys i (i + 8) refl in
       let g = from_more 8 16 xs ys (i + 8) (i + 16) (omega arith) in
       let h = from_more 8 8 xs ys (i + 16) (i + 24) (omega arith) in
@@ -250,7 +250,7 @@ cost_12 xs ys =
     let x = packed 8 xs 8 in
     let y = packed 8 ys 8 in
     ap (λ (w : ℕ). lane_sum 8 (eight_costs xs ys 0 + w)) (lower_four x y)
-    ∙ add-sum 8 (eight_costs xs ys 0) (lane_costs 4 x y) 24 24 (eight_low xs ys 0) (lanes_low 4 4 x y) (omega arith)
+    ∙ add_sum 8 (eight_costs xs ys 0) (lane_costs 4 x y) 24 24 (eight_low xs ys 0) (lanes_low 4 4 x y) (omega arith)
     ∙ ap₂ (λ (u v : ℕ). u + v) (eight_sum xs ys 0) (lanes_sum 4 4 x y ∙ packed_cost 4 4 xs ys 8)
     ∙ sym (from_more 8 4 xs ys 0 8 refl)
     ∙ from_codes 12 xs ys
@@ -260,7 +260,7 @@ cost_32 xs ys = four_sum xs ys 0 ∙ from_codes 32 xs ys
 
 cost_64 : (xs ys : List ℕ) → lane_sum 8 (four_costs xs ys 0 + four_costs xs ys 32) ≡ body_cost 256 xs ys
 cost_64 xs ys =
-    add-sum 8 (four_costs xs ys 0) (four_costs xs ys 32) 96 96 (low₄ xs ys 0) (low₄ xs ys 32) (omega arith)
+    add_sum 8 (four_costs xs ys 0) (four_costs xs ys 32) 96 96 (low₄ xs ys 0) (low₄ xs ys 32) (omega arith)
     ∙ ap₂ (λ (u v : ℕ). u + v) (four_sum xs ys 0) (four_sum xs ys 32)
     ∙ sym (from_more 32 32 xs ys 0 32 refl)
     ∙ from_codes 64 xs ys

@@ -116,9 +116,9 @@ module _ (a b v w d : ℕ) (p : v ≡ a) (q : w ≡ b) where
   unfolding length_cost
   length_near h k r l = rw (← p, ← q, ← around_256 v w h k, ← r, le-leb d 1 l)
 
-  pub length-far : v < 256 → w < 256 → d ≡ min ((256 + v - w) % 256) (256 - (256 + v - w) % 256) → 1 < d → 12 * d ≡ length_cost a b
+  pub length_far : v < 256 → w < 256 → d ≡ min ((256 + v - w) % 256) (256 - (256 + v - w) % 256) → 1 < d → 12 * d ≡ length_cost a b
   unfolding length_cost
-  length-far h k r l = rw (← p, ← q, ← around_256 v w h k, ← r, lt-leb d 1 l)
+  length_far h k r l = rw (← p, ← q, ← around_256 v w h k, ← r, lt-leb d 1 l)
 
   pub ratio_near : a < 16 → b < 16 → d ≡ min ((16 + v - w) % 16) (16 - (16 + v - w) % 16) → d ≤ 1 → d ≡ ratio_cost a b
   unfolding ratio_cost

@@ -213,9 +213,9 @@ body_zero (suc m) xs ys p q e i h =
 around_zero : (n a b : ℕ) → a < n → b < n → around n a b ≡ 0 → a ≡ b
 around_zero n a b h k e = apart_zero a b (omega arith)
 
-length-zero : (a b : ℕ) → a < 256 → b < 256 → length_cost a b ≡ 0 → a ≡ b
+length_zero : (a b : ℕ) → a < 256 → b < 256 → length_cost a b ≡ 0 → a ≡ b
 unfolding length_cost
-length-zero a b h k e = around_zero 256 a b h k (go (leb (around 256 a b) 1) e)
+length_zero a b h k e = around_zero 256 a b h k (go (leb (around 256 a b) 1) e)
   where
     go : (t : Bool) → cond t (around 256 a b) (12 * around 256 a b) ≡ 0 → around 256 a b ≡ 0
     go true e = e
@@ -248,7 +248,7 @@ cost_zero a b f g k v e =
     record {
       variant = v;
       checksum = checksum_zero a.checksum b.checksum (omega arith);
-      length_code = length-zero a.length_code b.length_code f.length_code g.length_code (omega arith);
+      length_code = length_zero a.length_code b.length_code f.length_code g.length_code (omega arith);
       ratios = omega arith;
       body = body_zero (bytes_of a.variant) a.body b.body f.body g.body d;
     }

@@ -27,7 +27,7 @@ use Rattle.finalize.specs.declared.Finalized.{Finalized}
 use Rattle.finalize.specs.Final.{refused, counts_as, is_too_large, is_too_small, is_three_quarter_empty, is_half_empty, replaced, digest_by}
 use Rattle.finalize.specs.Final.{distributed, with_code, measured, with_length, finalized_with, finalized_by, finalized}
 use Rattle.finalize.specs.Demands.{StatesGetMade}
-use Rattle.finalize.proofs.Laws.{length-known}
+use Rattle.finalize.proofs.Laws.{length_known}
 
 -- an answer that gives, with 0, a record that the port makes, of variant v
 record Gives (v : ℕ) (f : Finalized) : Type 0 where
@@ -94,7 +94,7 @@ unfolding finalized_with with_length
 gives_with s o wide small =
     let p = processed s in
     gives_by s.variant (eqb p.number done) (measured (counts_as p) s o) (refused p.number)
-    (λ e. gives_measured s o wide small (length-known s (known s.variant) refl (eqb-true p.number done e)) (counts_as p))
+    (λ e. gives_measured s o wide small (length_known s (known s.variant) refl (eqb-true p.number done e)) (counts_as p))
     (λ e. gives_refused s.variant p.number (eqb-false p.number done e))
 
 -- where a state gets a digest, that is a record that the port makes, of the state's variant

@@ -177,10 +177,10 @@ module _ (n : ℕ) (s : State) (o : Options) (l : Limits) (k : known s.variant �
 -- ---- the refusals before the steps
 
 -- a processed length is given for a known variant alone
-pub length-known : (s : State) (k : Bool) → known s.variant ≡ k → (processed s).number ≡ 0 → known s.variant ≡ true
+pub length_known : (s : State) (k : Bool) → known s.variant ≡ k → (processed s).number ≡ 0 → known s.variant ≡ true
 unfolding processed
-length-known s true p e = p
-length-known s false p e = absurd (omega (arith, rw p at e))
+length_known s true p e = p
+length_known s false p e = absurd (omega (arith, rw p at e))
 
 -- one law for each case of the processed length
 module _ (s : State) (p : Processed) (e : answer_of p ≡ processed s) where
@@ -188,10 +188,10 @@ module _ (s : State) (p : Processed) (e : answer_of p ≡ processed s) where
   number_is = sym (ap (λ (a : LengthAnswer). a.number) e)
 
   pub given_known : (n : ℕ) → p ≡ Known n → known s.variant ≡ true
-  given_known n t = length-known s (known s.variant) refl (number_is ∙ ap (λ (x : Processed). (answer_of x).number) t)
+  given_known n t = length_known s (known s.variant) refl (number_is ∙ ap (λ (x : Processed). (answer_of x).number) t)
 
   pub unknown_known : p ≡ Unknown → known s.variant ≡ true
-  unknown_known t = length-known s (known s.variant) refl (number_is ∙ ap (λ (x : Processed). (answer_of x).number) t)
+  unknown_known t = length_known s (known s.variant) refl (number_is ∙ ap (λ (x : Processed). (answer_of x).number) t)
 
   module _ (o : Options) (r : Finalized) where
     by_case : r ≡ with_length (answer_of p) s o → r ≡ finalized_with s o

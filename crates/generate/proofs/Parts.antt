@@ -24,8 +24,8 @@ pub tail_bound : (l n : ℕ) → marked l n ≡ false → n ≤ 4
 tail_bound l n e = (unmarked_fine l n e).few
 
 -- and its length field is at most its stop
-pub length-bound : (l n : ℕ) → marked l n ≡ false → l ≤ stop
-length-bound l n e = (unmarked_fine l n e).stops
+pub length_bound : (l n : ℕ) → marked l n ≡ false → l ≤ stop
+length_bound l n e = (unmarked_fine l n e).stops
 
 -- a part of at most m bytes has the length that it is cut at
 least_length : (xs : List ℕ) (n m : ℕ) → n ≡ min (length xs) m → n ≡ length (take n xs)
@@ -119,7 +119,7 @@ module _ (s : State) (xs t : List ℕ) (c : Cuts) (f : marked s.length s.tail_le
   other_parts (no h) ys p =
       rw (p, k.rises)
       (count_feed (drop c.first xs) s.variant s.length (c.last - c.first) c.tail_len s.counters w (omega arith)
-      (length-bound s.length s.tail_len f) (omega (arith, length-drop c.first xs, k.counts)))
+      (length_bound s.length s.tail_len f) (omega (arith, length-drop c.first xs, k.counts)))
 
   -- so the state of the filled tail and the counted bytes is the one that all bytes lead to
   pub fed_parts : (cs : List ℕ) (w' : Window) → Ran s.variant (take (c.last - c.first) (drop c.first xs)) s.counters w cs w'

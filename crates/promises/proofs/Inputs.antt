@@ -116,45 +116,45 @@ zero_either : (b : Bool) (f g : Finalized) → Zero f → Zero g → Zero (cond 
 zero_either true f g p q = p
 zero_either false f g p q = q
 
-zero-refused : (n : ℕ) → Zero (refused n)
-zero-refused n = record { zero = λ z. refl }
+zero_refused : (n : ℕ) → Zero (refused n)
+zero_refused n = record { zero = λ z. refl }
 
-zero-done : (d : Digest) → Zero (record { number = done; digest = d })
-zero-done d = record { zero = λ z. absurd (z refl) }
+zero_done : (d : Digest) → Zero (record { number = done; digest = d })
+zero_done d = record { zero = λ z. absurd (z refl) }
 
-zero-distributed : (used : List ℕ) (v checksum code : ℕ) (o : Options) → Zero (distributed used v checksum code o)
+zero_distributed : (used : List ℕ) (v checksum code : ℕ) (o : Options) → Zero (distributed used v checksum code o)
 unfolding distributed
-zero-distributed used v checksum code o =
+zero_distributed used v checksum code o =
     let d = digest_by (replaced (quartiles used)) used v checksum code o.integer in
     let r : Finalized = record { number = done; digest = d } in
     zero_either (is_three_quarter_empty (quartiles used) o) (refused three_quarter_empty) (cond (is_half_empty used v o) (refused half_empty) r)
-    (zero-refused three_quarter_empty) (zero_either (is_half_empty used v o) (refused half_empty) r (zero-refused half_empty) (zero-done d))
+    (zero_refused three_quarter_empty) (zero_either (is_half_empty used v o) (refused half_empty) r (zero_refused half_empty) (zero_done d))
 
 zero_code : (l : Coded) (s : State) (o : Options) → Zero (with_code l s o)
 unfolding with_code
 zero_code l s o =
     let used = take s.variant s.counters in
     zero_either (eqb l.number done) (distributed used s.variant s.checksum l.code o) (refused l.number)
-    (zero-distributed used s.variant s.checksum l.code o) (zero-refused l.number)
+    (zero_distributed used s.variant s.checksum l.code o) (zero_refused l.number)
 
-zero-measured : (n : ℕ) (s : State) (o : Options) → Zero (measured n s o)
+zero_measured : (n : ℕ) (s : State) (o : Options) → Zero (measured n s o)
 unfolding measured
-zero-measured n s o =
+zero_measured n s o =
     zero_either (is_too_large s.variant n) (refused too_large_input)
     (cond (is_too_small s.variant n o) (refused too_small_input) (with_code (coded n) s o))
-    (zero-refused too_large_input)
+    (zero_refused too_large_input)
     (zero_either (is_too_small s.variant n o) (refused too_small_input) (with_code (coded n) s o)
-    (zero-refused too_small_input) (zero_code (coded n) s o))
+    (zero_refused too_small_input) (zero_code (coded n) s o))
 
-zero-length : (a : LengthAnswer) (s : State) (o : Options) → Zero (with_length a s o)
+zero_length : (a : LengthAnswer) (s : State) (o : Options) → Zero (with_length a s o)
 unfolding with_length
-zero-length a s o =
+zero_length a s o =
     zero_either (eqb a.number done) (measured (counts_as a) s o) (refused a.number)
-    (zero-measured (counts_as a) s o) (zero-refused a.number)
+    (zero_measured (counts_as a) s o) (zero_refused a.number)
 
 -- of every state, also one that no bytes reach
 pub zero_beside_refusal : ZeroBesideRefusal
 unfolding finalized finalized_by finalized_with
 zero_beside_refusal s n =
     (zero_either (eqb (chosen n).number done) (with_length (processed s) s (chosen n).options) (refused (chosen n).number)
-    (zero-length (processed s) s (chosen n).options) (zero-refused (chosen n).number)).zero
+    (zero_length (processed s) s (chosen n).options) (zero_refused (chosen n).number)).zero

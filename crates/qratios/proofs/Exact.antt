@@ -143,8 +143,8 @@ exact_quotient p r P small R r-lt = go (below_or_not r 16777216)
     B : ℕ
     B = top b * bottom a
 
-    B-pos : 0 < B
-    B-pos = mul-pos (top_pos r b R r-lt k) (pow_pos a.over)
+    B_pos : 0 < B
+    B_pos = mul-pos (top_pos r b R r-lt k) (pow_pos a.over)
 
     h : Shape A B (divided a b)
     h = shape_divided p r P (omega arith) R r-lt
@@ -164,10 +164,10 @@ exact_quotient p r P small R r-lt = go (below_or_not r 16777216)
     go (inl l) =
         let r_is : top b ≡ r * bottom b = exact r b k l in
         let c : A * r ≡ p * B = rw (p_is, r_is) (simp (mul_assoc, mul_comm, mul_left_comm)) in
-        le_antisymm (whole_le A B p r B-pos R small (le_of_eq c) (divided a b) h)
-        (whole_ge A B p r B-pos R small (le_of_eq c) (divided a b) h (p / r) (no_less p r a b p_is r_is))
+        le_antisymm (whole_le A B p r B_pos R small (le_of_eq c) (divided a b) h)
+        (whole_ge A B p r B_pos R small (le_of_eq c) (divided a b) h (p / r) (no_less p r a b p_is r_is))
     go (inr l) =
-        let z : whole (divided a b) ≤ p / 16777216 = whole_le A B p 16777216 B-pos (lit< tt) small (crossed l) (divided a b) h in
+        let z : whole (divided a b) ≤ p / 16777216 = whole_le A B p 16777216 B_pos (lit< tt) small (crossed l) (divided a b) h in
         omega (arith, div-eq_of_lt small, div-eq_of_lt (lt_of_lt_of_le small l))
 
 -- ---- the two paths

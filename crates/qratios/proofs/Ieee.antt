@@ -247,16 +247,16 @@ converted n h = round_single n 1 (lit< tt) (omega arith) (lit< tt)
 -- ---- division
 
 -- by any fractions that the two numbers equal
-div-at : (x y : Float) (a c b d : ℕ) → 0 < c → 0 < b → 0 < d → HasValue x false a c → HasValue y false b d
+div_at : (x y : Float) (a c b d : ℕ) → 0 < c → 0 < b → 0 < d → HasValue x false a c → HasValue y false b d
     → div binary32 x y ≡ round binary32 false (a * d) (b * c)
 unfolding div
-div-at nan y a c b d C B D h k = absurd h
-div-at (inf s) y a c b d C B D h k = absurd h
-div-at (fin true m e) y a c b d C B D h k = absurd (true≢false h.0)
-div-at (fin false m e) nan a c b d C B D h k = absurd k
-div-at (fin false m e) (inf t) a c b d C B D h k = absurd k
-div-at (fin false m e) (fin true n f) a c b d C B D h k = absurd (true≢false k.0)
-div-at (fin false m e) (fin false n f) a c b d C B D h k =
+div_at nan y a c b d C B D h k = absurd h
+div_at (inf s) y a c b d C B D h k = absurd h
+div_at (fin true m e) y a c b d C B D h k = absurd (true≢false h.0)
+div_at (fin false m e) nan a c b d C B D h k = absurd k
+div_at (fin false m e) (inf t) a c b d C B D h k = absurd k
+div_at (fin false m e) (fin true n f) a c b d C B D h k = absurd (true≢false k.0)
+div_at (fin false m e) (fin false n f) a c b d C B D h k =
     rw (ne_eqb n 0 (λ z. omega (arith, n_pos)))
     (round_same binary32 false (m * up e * down f) (n * up f * down e) (a * d) (b * c) (mul-pos (mul-pos n_pos (up_pos f)) (down_pos e))
     (mul-pos B C) equal)
@@ -295,11 +295,11 @@ divided_is p r p-lt R r-lt = go (eq-zero-or-pos p)
     go : (p ≡ 0) ⊎ (0 < p) → div binary32 (float (single p 1)) (float b) ≡ float (divided (single p 1) b)
     go (inl z) =
         rw (z, single_zero 1, divided_zero b)
-        (div-at (float nought) (float b) 0 1 (top b) (bottom b) (lit< tt) B (pow_pos b.over) (zero_value 1) value
+        (div_at (float nought) (float b) 0 1 (top b) (bottom b) (lit< tt) B (pow_pos b.over) (zero_value 1) value
         ∙ rw (zero-mul (bottom b)) (round_zero (top b * 1) (mul-pos B (lit< tt))))
     go (inr P) =
         let a = single p 1 in
-        div-at (float a) (float b) (top a) (bottom a) (top b) (bottom b) (pow_pos a.over) B (pow_pos b.over)
+        div_at (float a) (float b) (top a) (bottom a) (top b) (bottom b) (pow_pos a.over) B (pow_pos b.over)
         (float_value a (normal p 1 a (shape_whole p P p-lt))) value
         ∙ round_of (top a * bottom b) (top b * bottom a) (divided a b) (mul-pos B (pow_pos a.over)) (shape_divided p r P p-lt R r-lt)
 

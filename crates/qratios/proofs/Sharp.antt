@@ -94,8 +94,8 @@ misses q r k j J small e = go (below_or_not r 262144)
 -- ---- the quotient of 100 * q and r
 sharp_quotient : (q r : ℕ) → 0 < q → 0 < r → q ≤ r → r ≤ 262146 → whole (divided (single (100 * q) 1) (single r 1)) ≡ 100 * q / r
 sharp_quotient q r Q R most small =
-    le_antisymm (not_reached A B B-pos at_most x h (p / r) (j * c) sum gap)
-    (whole_ge A B 100 1 B-pos (lit< tt) (lit< tt) at_most x h (p / r) (no_less p r a b p_is r_is))
+    le_antisymm (not_reached A B B_pos at_most x h (p / r) (j * c) sum gap)
+    (whole_ge A B 100 1 B_pos (lit< tt) (lit< tt) at_most x h (p / r) (no_less p r a b p_is r_is))
   where
     p : ℕ
     p = 100 * q
@@ -128,14 +128,14 @@ sharp_quotient q r Q R most small =
     r_is : top b ≡ r * bottom b
     r_is = exact r b (shape_whole r R (omega arith)) (omega arith)
 
-    A-is : A ≡ p * c
-    A-is = ap (λ z. z * bottom b) p_is ∙ mul_assoc p (bottom a) (bottom b)
+    A_is : A ≡ p * c
+    A_is = ap (λ z. z * bottom b) p_is ∙ mul_assoc p (bottom a) (bottom b)
 
-    B-is : B ≡ r * c
-    B-is = ap (λ z. z * bottom a) r_is ∙ mul_assoc r (bottom b) (bottom a) ∙ ap (λ z. r * z) (mul_comm (bottom b) (bottom a))
+    B_is : B ≡ r * c
+    B_is = ap (λ z. z * bottom a) r_is ∙ mul_assoc r (bottom b) (bottom a) ∙ ap (λ z. r * z) (mul_comm (bottom b) (bottom a))
 
-    B-pos : 0 < B
-    B-pos = rw B-is (mul-pos R c_pos)
+    B_pos : 0 < B
+    B_pos = rw B_is (mul-pos R c_pos)
 
     h : Shape A B x
     h = shape_divided p r (omega arith) (omega arith) R (omega arith)
@@ -143,7 +143,7 @@ sharp_quotient q r Q R most small =
     at_most : A * 1 ≤ 100 * B
     at_most =
         let m : p * c ≤ 100 * r * c = mul-le-mul_right c (mul-le-mul_left 100 most) in
-        rw (mul-one A, A-is, B-is, ← mul_assoc 100 r c) m
+        rw (mul-one A, A_is, B_is, ← mul_assoc 100 r c) m
 
     -- p / r misses the next whole number by j / r
     j : ℕ
@@ -153,13 +153,13 @@ sharp_quotient q r Q R most small =
     j_is = omega (arith, below_next p r R)
 
     sum : j * c + A ≡ suc (p / r) * B
-    sum = rw (A-is, B-is) (sym (add-mul j p c) ∙ ap (λ z. z * c) j_is ∙ mul_assoc (suc (p / r)) r c)
+    sum = rw (A_is, B_is) (sym (add-mul j p c) ∙ ap (λ z. z * c) j_is ∙ mul_assoc (suc (p / r)) r c)
 
     gap : B < 262144 * (j * c)
     gap =
         let f : r < 262144 * j = misses q r (p / r) j (omega (arith, below_next p r R)) small j_is in
         let m : r * c < 262144 * j * c = mul-lt-mul_of_pos_right f c_pos in
-        rw (B-is, ← mul_assoc 262144 j c) m
+        rw (B_is, ← mul_assoc 262144 j c) m
 
 -- ---- the two paths give one whole part for every q up to a q3 of at most 262,146
 pub sharp_paths : (q q3 : ℕ) → 0 < q3 → q ≤ q3 → q3 ≤ 262146 → floating_whole q q3 ≡ integer_whole q q3

@@ -1,6 +1,6 @@
 -- `compare::length_cost` meets its contract: near and far.
 -- Assumes nothing.
-use Rattle.compare.proofs.Costs.{length_near, length-far}
+use Rattle.compare.proofs.Costs.{length_near, length_far}
 use borrow.Author.Rules.{rules}
 use Rattle.compare.proofs.length_cost.Goals as goal
 
@@ -8,4 +8,4 @@ pub returns-then-d-le1 : goal.returns-then-d-le1
 returns-then-d-le1 c = (search length_near, search rules)
 
 pub returns-else-d-le1 : goal.returns-else-d-le1
-returns-else-d-le1 c = (search length-far, search rules)
+returns-else-d-le1 c = (search length_far, search rules)
