@@ -8,12 +8,13 @@
 // The number of used counters is the length of what is lent, and nothing below names a variant.
 #![tactic(auto)]
 
-ghost use Rattle.std.specs.Prelude.{◌≡◌, ◌+◌, ◌*◌, ◌≤◌, length};
+ghost use Rattle.std.specs.Prelude.{◌≡◌, ◌≤◌, length};
 ghost use Rattle.body.specs.Body.{code_of, byte_of, bytes_of, body_of};
 
 use quartile::Quartiles;
 
 // The code of a counter.
+#[tactic(auto, unfolding(crate::specs::Body::code_of))]
 fn code_of(cuts: Quartiles, counter: u32) -> u8
     ensures { (result ≡ code_of cuts counter) × (result ≤ 3) }
 {
@@ -28,39 +29,30 @@ fn code_of(cuts: Quartiles, counter: u32) -> u8
     }
 }
 
-// The byte of counters 4i to 4i+3, lowest two bits first.
-fn byte_of(cuts: Quartiles, used: &[u32], i: usize) -> u8
-    requires { 4 * i + 4 ≤ length used.now }
-    ensures { result ≡ byte_of cuts used.now i }
+// The byte of four counters, lowest two bits first.
+fn byte_of(cuts: Quartiles, four: &[u32; 4]) -> u8
+    ensures { result ≡ byte_of cuts four.now 0 }
 {
-    let at = 4 * i;
-    let a = code_of(cuts, used[at]);
-    let b = code_of(cuts, used[at + 1]);
-    let c = code_of(cuts, used[at + 2]);
-    let d = code_of(cuts, used[at + 3]);
-    a + 4 * b + 16 * c + 64 * d
+    let [a, b, c, d] = *four;
+    code_of(cuts, a) + 4 * code_of(cuts, b) + 16 * code_of(cuts, c) + 64 * code_of(cuts, d)
 }
 
-// The number of bytes that so many counters fill, at most 64. A variant is its number of counters, so these are its used bytes.
+/// The number of bytes that so many counters fill, at most 64. A variant is its number of counters, so these are its used bytes.
 pub fn bytes_of(counters: usize) -> usize
     ensures { result ≡ bytes_of counters }
 {
-    if 256 <= counters {
-        return 64;
-    }
-    counters / 4
+    (counters / 4).min(64)
 }
 
-// The body: the bytes of the used counters, that of the first four last, and 0 after them.
+/// The body: the bytes of the used counters, that of the first four last, and 0 after them.
 pub fn body_of(cuts: Quartiles, used: &[u32]) -> [u8; 64]
     ensures { result ≡ body_of cuts used.now }
 {
-    let mut body = [0u8; 64];
+    let mut body = [0; 64];
     let m = bytes_of(used.len());
-    let mut i = 0;
-    while i < m {
-        body[m - 1 - i] = byte_of(cuts, used, i);
-        i += 1;
+    let (fours, _) = used.as_chunks::<4>();
+    for (i, four) in fours[..m].iter().enumerate() {
+        body[m - 1 - i] = byte_of(cuts, four);
     }
     body
 }

@@ -1,13 +1,13 @@
 -- From words to bodies: the cost of the first 12, 32 or 64 bytes is the sum of the bytes of added words of costs.
 -- Assumes nothing.
 use mathlib.Core.Path.{◌≡◌, refl, sym, ◌∙◌, ap, ap₂}
-use mathlib.Core.List.{List}
-use mathlib.Core.Bool.{true}
+use mathlib.Core.List.{List, []}
 use Prim.Native.Nat.{ℕ, zero, suc, ◌+◌, ◌*◌, ◌/◌, ◌%◌, ◌≤◌, ◌<◌}
 use native.Mathlib.Omega.{arith}
-use lib.ListN.{get_or}
-use Rattle.params.specs.Variants.{known}
-use Rattle.params.proofs.Variants.{by_variant}
+use lib.ListN.{get_or, take, drop, length}
+use Rattle.std.specs.Int.{w64, from_le_bytes}
+use Rattle.std.specs.Simd.{first_chunks}
+use Rattle.std.proofs.lemmas.List.{get_or-take, get_or-drop}
 use Rattle.compare.specs.Distance.{body_cost}
 use Rattle.compare.specs.Lanes.{byte_cost, packed, lane_costs, lane_sum, eight_costs, four_costs}
 use Rattle.compare.proofs.Costs.{byte_most, byte_more}
@@ -169,27 +169,78 @@ from_codes (suc m) xs ys =
 
 -- ---- the words that the code makes
 
--- four bytes
-pub half_is : (xs : List ℕ) (i a b c d : ℕ) → a ≡ get_or xs i 0 → a < 256 → b ≡ get_or xs (i + 1) 0 → b < 256
-    → c ≡ get_or xs (i + 2) 0 → c < 256 → d ≡ get_or xs (i + 3) 0 → d < 256
-    → a + 256 * b + 65536 * c + 16777216 * d ≡ packed 4 xs i
-unfolding packed
-half_is xs i a b c d p h q k r l s m =
-    let e₁ : suc i ≡ i + 1 = omega arith in
-    let e₂ : suc (i + 1) ≡ i + 2 = omega arith in
-    let e₃ : suc (i + 2) ≡ i + 3 = omega arith in
-    rw (e₁, e₂, e₃, ← p, ← q, ← r, ← s) (omega arith)
-
 -- eight bytes
-pub word_is : (xs : List ℕ) (i h k : ℕ) → h ≡ packed 4 xs i → k ≡ packed 4 xs (i + 4) → h + 4294967296 * k ≡ packed 8 xs i
+le_word : (xs : List ℕ) → ((i : ℕ) → get_or xs i 0 < 256) → from_le_bytes w64 xs ≡ packed 8 xs 0
 unfolding packed
-word_is xs i h k p q =
-    let e : suc (suc (suc (suc i))) ≡ i + 4 = omega arith in
-    rw (e, p, q) (omega arith)
+le_word xs h = omega (arith, h 0, h 1, h 2, h 3, h 4, h 5, h 6, h 7)
 
 -- their costs
-pub eight_is : (xs ys : List ℕ) (i a b r : ℕ) → a ≡ packed 8 xs i → b ≡ packed 8 ys i → r ≡ lane_costs 8 a b → r ≡ eight_costs xs ys i
-eight_is xs ys i a b r p q e = rw (e, p, q)
+pub eight_is : (xs ys : List ℕ) → ((i : ℕ) → get_or xs i 0 < 256) → ((i : ℕ) → get_or ys i 0 < 256) → (a b r : ℕ)
+    → a ≡ from_le_bytes w64 xs → b ≡ from_le_bytes w64 ys → r ≡ lane_costs 8 a b → r ≡ eight_costs xs ys 0
+eight_is xs ys h k a b r p q e = rw (e, p, q, le_word xs h, le_word ys k)
+
+-- ---- chunks of bytes
+
+-- a place of the chunk at i, in the whole
+abbrev place : ℕ → ℕ → ℕ → ℕ
+place zero m j = j
+place (suc i) m j = m + place i m j
+
+packed_take : (n m : ℕ) (xs : List ℕ) (j : ℕ) → j + n ≤ m → packed n (take m xs) j ≡ packed n xs j
+unfolding packed
+packed_take zero m xs j h = refl
+packed_take (suc n) m xs j h = rw (get_or-take m xs j 0 (omega arith), packed_take n m xs (suc j) (omega arith))
+
+packed_drop : (n m : ℕ) (xs : List ℕ) (j k : ℕ) → k ≡ m + j → packed n (drop m xs) j ≡ packed n xs k
+unfolding packed
+packed_drop zero m xs j k e = refl
+packed_drop (suc n) m xs j k e = rw (get_or-drop m xs j 0, ← e, packed_drop n m xs (suc j) (suc k) (omega arith))
+
+chunk_packed : (n m c i j : ℕ) (xs : List ℕ) → i < c → j + n ≤ m → packed n (get_or (first_chunks m c xs) i []) j ≡ packed n xs (place i m j)
+chunk_packed n m zero i j xs h l = absurd (omega arith)
+chunk_packed n m (suc c) zero j xs h l = packed_take n m xs j l
+chunk_packed n m (suc c) (suc i) j xs h l =
+    chunk_packed n m c i j (drop m xs) (omega arith) l ∙ packed_drop n m xs (place i m j) (m + place i m j) refl
+
+-- the costs of eight bytes of two chunks are those of the bytes in the whole
+chunk_costs : (m c i j : ℕ) (xs ys : List ℕ) → i < c → j + 8 ≤ m
+    → eight_costs (get_or (first_chunks m c xs) i []) (get_or (first_chunks m c ys) i []) j ≡ eight_costs xs ys (place i m j)
+chunk_costs m c i j xs ys h l = ap₂ (lane_costs 8) (chunk_packed 8 m c i j xs h l) (chunk_packed 8 m c i j ys h l)
+
+eight_at : (c i : ℕ) (xs ys : List ℕ) (us vs : List (List ℕ)) (a : ℕ) → i < c → us ≡ first_chunks 8 c xs → vs ≡ first_chunks 8 c ys
+    → a ≡ eight_costs (get_or us i []) (get_or vs i []) 0 → a ≡ eight_costs xs ys (place i 8 0)
+eight_at c i xs ys us vs a h p q e =
+    e ∙ ap₂ (λ (u v : List (List ℕ)). eight_costs (get_or u i []) (get_or v i []) 0) p q ∙ chunk_costs 8 c i 0 xs ys h (omega arith)
+
+-- 32 bytes of two wholes of 32
+pub four_is : (xs ys : List ℕ) (us vs : List (List ℕ)) (a b c d : ℕ) → length xs ≡ 32 → length ys ≡ 32
+    → us ≡ first_chunks 8 (length xs / 8) xs → vs ≡ first_chunks 8 (length ys / 8) ys
+    → a ≡ eight_costs (get_or us 0 []) (get_or vs 0 []) 0
+    → b ≡ eight_costs (get_or us 1 []) (get_or vs 1 []) 0
+    → c ≡ eight_costs (get_or us 2 []) (get_or vs 2 []) 0
+    → d ≡ eight_costs (get_or us 3 []) (get_or vs 3 []) 0
+    → a + b + c + d ≡ four_costs xs ys 0
+four_is xs ys us vs a b c d x y m n e f g h =
+    let p : us ≡ first_chunks 8 4 xs = rw x at m in
+    let q : vs ≡ first_chunks 8 4 ys = rw y at n in
+    let i = eight_at 4 0 xs ys us vs a (omega arith) p q e in
+    let j = eight_at 4 1 xs ys us vs b (omega arith) p q f in
+    let k = eight_at 4 2 xs ys us vs c (omega arith) p q g in
+    let l = eight_at 4 3 xs ys us vs d (omega arith) p q h in
+    rw (i, j, k, l)
+
+-- and of two chunks of 32
+four_at : (i : ℕ) (xs ys : List ℕ) (us vs : List (List ℕ)) (a : ℕ) → i < 2 → us ≡ first_chunks 32 2 xs → vs ≡ first_chunks 32 2 ys
+    → a ≡ four_costs (get_or us i []) (get_or vs i []) 0
+    → a ≡ eight_costs xs ys (place i 32 0) + eight_costs xs ys (place i 32 8) + eight_costs xs ys (place i 32 16) + eight_costs xs ys (place i 32 24)
+four_at i xs ys us vs a h p q e =
+    e
+    ∙ ap₂ (λ (u v : List (List ℕ)). four_costs (get_or u i []) (get_or v i []) 0) p q
+    ∙ ap₂ (λ (u v : ℕ). u + v)
+    (ap₂ (λ (u v : ℕ). u + v)
+    (ap₂ (λ (u v : ℕ). u + v) (chunk_costs 32 2 i 0 xs ys h (omega arith)) (chunk_costs 32 2 i 8 xs ys h (omega arith)))
+    (chunk_costs 32 2 i 16 xs ys h (omega arith)))
+    (chunk_costs 32 2 i 24 xs ys h (omega arith))
 
 -- ---- the bodies
 
@@ -265,27 +316,40 @@ cost_64 xs ys =
     ∙ sym (from_more 32 32 xs ys 0 32 refl)
     ∙ from_codes 64 xs ys
 
--- a known variant up to 48 is 48, one after that up to 128 is 128, and one after that 256
-pub short_is : (n : ℕ) → known n ≡ true → n ≤ 48 → n ≡ 48
-short_is = by_variant (λ n. n ≤ 48 → n ≡ 48) (λ h. refl) (λ h. absurd (omega arith)) (λ h. absurd (omega arith))
-
-pub normal_is : (n : ℕ) → known n ≡ true → 48 < n → n ≤ 128 → n ≡ 128
-normal_is = by_variant (λ n. 48 < n → n ≤ 128 → n ≡ 128) (λ h k. absurd (omega arith)) (λ h k. refl) (λ h k. absurd (omega arith))
-
-pub long_is : (n : ℕ) → known n ≡ true → 128 < n → n ≡ 256
-long_is = by_variant (λ n. 128 < n → n ≡ 256) (λ h. absurd (omega arith)) (λ h. absurd (omega arith)) (λ h. refl)
-
 -- the short body: 8 bytes and 4
-pub body_48 : (xs ys : List ℕ) (n a b r : ℕ) → known n ≡ true → n ≤ 48 → a ≡ eight_costs xs ys 0 → b ≡ eight_costs xs ys 8
-    → r ≡ lane_sum 8 (a + b % 4294967296) → r ≡ body_cost n xs ys
-body_48 xs ys n a b r z l p o q = rw (short_is n z l, q, p, o) (cost_12 xs ys)
+pub body_short : (xs ys : List ℕ) (us vs : List (List ℕ)) (a b r : ℕ) → length xs ≡ 64 → length ys ≡ 64
+    → us ≡ first_chunks 8 (length xs / 8) xs → vs ≡ first_chunks 8 (length ys / 8) ys
+    → a ≡ eight_costs (get_or us 0 []) (get_or vs 0 []) 0
+    → b ≡ eight_costs (get_or us 1 []) (get_or vs 1 []) 0
+    → r ≡ lane_sum 8 (a + b % 4294967296)
+    → r ≡ body_cost 48 xs ys
+body_short xs ys us vs a b r x y k l p o q =
+    let m : us ≡ first_chunks 8 8 xs = rw x at k in
+    let n : vs ≡ first_chunks 8 8 ys = rw y at l in
+    let f = eight_at 8 0 xs ys us vs a (omega arith) m n p in
+    let g = eight_at 8 1 xs ys us vs b (omega arith) m n o in
+    rw (q, f, g) (cost_12 xs ys)
 
 -- the normal body: 32 bytes
-pub body_128 : (xs ys : List ℕ) (n s r : ℕ) → known n ≡ true → 48 < n → n ≤ 128 → s ≡ four_costs xs ys 0 → r ≡ lane_sum 8 s
-    → r ≡ body_cost n xs ys
-body_128 xs ys n s r z l m p q = rw (normal_is n z l m, q, p) (cost_32 xs ys)
+pub body_normal : (xs ys : List ℕ) (us vs : List (List ℕ)) (s r : ℕ) → length xs ≡ 64 → length ys ≡ 64
+    → us ≡ first_chunks 32 (length xs / 32) xs → vs ≡ first_chunks 32 (length ys / 32) ys
+    → s ≡ four_costs (get_or us 0 []) (get_or vs 0 []) 0 → r ≡ lane_sum 8 s → r ≡ body_cost 128 xs ys
+body_normal xs ys us vs s r x y k l p q =
+    let m : us ≡ first_chunks 32 2 xs = rw x at k in
+    let n : vs ≡ first_chunks 32 2 ys = rw y at l in
+    let f = four_at 0 xs ys us vs s (omega arith) m n p in
+    rw (q, f) (cost_32 xs ys)
 
 -- the long body: twice 32
-pub body_256 : (xs ys : List ℕ) (n s t r : ℕ) → known n ≡ true → 128 < n → s ≡ four_costs xs ys 0 → t ≡ four_costs xs ys 32
-    → r ≡ lane_sum 8 (s + t) → r ≡ body_cost n xs ys
-body_256 xs ys n s t r z l p o q = rw (long_is n z l, q, p, o) (cost_64 xs ys)
+pub body_long : (xs ys : List ℕ) (us vs : List (List ℕ)) (s t r : ℕ) → length xs ≡ 64 → length ys ≡ 64
+    → us ≡ first_chunks 32 (length xs / 32) xs → vs ≡ first_chunks 32 (length ys / 32) ys
+    → s ≡ four_costs (get_or us 0 []) (get_or vs 0 []) 0
+    → t ≡ four_costs (get_or us 1 []) (get_or vs 1 []) 0
+    → r ≡ lane_sum 8 (s + t)
+    → r ≡ body_cost 256 xs ys
+body_long xs ys us vs s t r x y k l p o q =
+    let m : us ≡ first_chunks 32 2 xs = rw x at k in
+    let n : vs ≡ first_chunks 32 2 ys = rw y at l in
+    let f = four_at 0 xs ys us vs s (omega arith) m n p in
+    let g = four_at 1 xs ys us vs t (omega arith) m n o in
+    rw (q, f, g) (cost_64 xs ys)

@@ -8,9 +8,9 @@ use Prim.Native.Nat.{ℕ, zero, suc, ◌+◌, ◌-◌, ◌*◌, ◌/◌, ◌%◌
 use native.Mathlib.Omega.{arith}
 use lib.Dec.{leb}
 use lib.ListN.{get_or}
-use borrow.Author.Tests.{le-leb, lt-leb, leb-true, leb-false, eq-eqb, ne_eqb}
+use borrow.Author.Tests.{le-leb, lt-leb, leb-true, leb-false}
 use Rattle.params.specs.Words.{apart}
-use Rattle.compare.specs.Distance.{outermost, code_cost, code_at, body_cost, around, length_cost, ratio_cost, checksum_cost}
+use Rattle.compare.specs.Distance.{outermost, code_cost, code_at, body_cost, around, length_cost, ratio_cost}
 use Rattle.compare.specs.Lanes.{byte_cost}
 
 -- ---- the body
@@ -71,7 +71,7 @@ byte_more m xs ys =
     first : (zs : List ℕ) → code_at zs (4 * m) ≡ get_or zs m 0 % 4
     first zs = code_at_lem zs (4 * m) m 0 (omega arith) (omega arith) ∙ ap (λ (n : ℕ). n % 4) (whole (get_or zs m 0))
 
--- ---- the length code, a ratio, the checksum: what the code computes, near and far
+-- ---- the length code and a ratio: what the code computes, near and far
 
 -- the shorter way around, of which one is the difference modulo n
 abbrev shorter : ℕ → ℕ → ℕ
@@ -127,11 +127,3 @@ module _ (a b v w d : ℕ) (p : v ≡ a) (q : w ≡ b) where
   pub ratio_far : a < 16 → b < 16 → d ≡ min ((16 + v - w) % 16) (16 - (16 + v - w) % 16) → 1 < d → 12 * (d - 1) ≡ ratio_cost a b
   unfolding ratio_cost
   ratio_far h k r l = rw (← around_16 a b h k, ← p, ← q, ← r, lt-leb d 1 l)
-
-pub checksum_equal : (a b : ℕ) → a ≡ b → 0 ≡ checksum_cost a b
-unfolding checksum_cost
-checksum_equal a b e = rw (eq-eqb a b e)
-
-pub checksum_unequal : (a b : ℕ) → (a ≡ b → ⊥) → 1 ≡ checksum_cost a b
-unfolding checksum_cost
-checksum_unequal a b e = rw (ne_eqb a b e)

@@ -10,21 +10,20 @@ use lib.ListN.{get_or, replicate}
 use borrow.Author.Tests.{leb-false, eq-eqb, ne_eqb, eqb-true, eqb-false}
 use Rattle.params.specs.Variants.{known}
 use Rattle.params.specs.Words.{apart}
-use Rattle.params.specs.Answers.{done}
+use Rattle.std.specs.Prelude.{Result, Ok, Err}
+use Rattle.params.specs.declared.Refusal.{Refusal}
 use Rattle.params.proofs.Every.{below}
 use Rattle.params.proofs.Variants.{by_variant, known_most}
 use Rattle.body.specs.Body.{bytes_of}
 use Rattle.hash.specs.declared.Digest.{Digest}
-use Rattle.hash.specs.Digest.{same_of}
 use Rattle.hash.proofs.Sameness.{Alike, agreed, agreed_same}
-use Rattle.compare.specs.declared.DistanceAnswer.{DistanceAnswer}
 use Rattle.compare.specs.Distance.{outermost, code_cost, code_at, body_cost, around, costs, length_cost, ratio_cost, checksum_cost}
-use Rattle.compare.specs.Distance.{cost_of, refused_distance, comparability, distance_of}
+use Rattle.compare.specs.Distance.{cost_of, answered, comparability, distance_of}
 use Rattle.compare.specs.Lanes.{byte_cost}
 use Rattle.compare.specs.Theorems.{EitherOrder, Bytes, ZeroForTheSame, SameForZero}
-use Rattle.compare.specs.Theorems.{greatest, AtMost, Reached, Totals}
+use Rattle.compare.specs.Theorems.{greatest, AtMost, lowest, highest, Reached, Totals}
 use Rattle.compare.proofs.Costs.{byte_more, body_most}
-use Rattle.compare.proofs.Answers.{comparable_says, comparable_one}
+use Rattle.compare.proofs.Answers.{Comparable, comparable_says, comparable_one, distance_refused, distance_sum}
 
 -- ---- either order
 
@@ -81,22 +80,16 @@ comparable_turn : (v w : ℕ) → comparability v w ≡ comparability w v
 unfolding comparability
 comparable_turn v w = rw (and_comm (known v) (known w), eqb_turn v w)
 
--- the answer for a number and a cost
-abbrev answered : ℕ → ℕ → DistanceAnswer
-answered n d = cond (eqb n done) (record { number = done; distance = d }) (refused_distance n)
-
 pub either_order : EitherOrder
 unfolding distance_of
-either_order a b =
-    go (eqb n 0) refl
-    ∙ ap (λ (m : ℕ). answered m (cost_of b a)) (comparable_turn a.variant b.variant)
+either_order a b = go n refl ∙ ap (λ (m : Result (Unit {0}) Refusal). answered m (cost_of b a)) (comparable_turn a.variant b.variant)
   where
-    n : ℕ
+    n : Result (Unit {0}) Refusal
     n = comparability a.variant b.variant
 
-    go : (t : Bool) → eqb n 0 ≡ t → answered n (cost_of a b) ≡ answered n (cost_of b a)
-    go true e = ap (answered n) (cost_turn a b (comparable_says a.variant b.variant (eqb-true n 0 e)).one)
-    go false e = rw e
+    go : (m : Result (Unit {0}) Refusal) → n ≡ m → answered m (cost_of a b) ≡ answered m (cost_of b a)
+    go (Ok u) e = ap Ok (cost_turn a b (comparable_says a.variant b.variant e).one)
+    go (Err r) e = refl
 
 -- ---- 0 for the same
 
@@ -158,10 +151,9 @@ cost_alike a b k s =
     ))
 
 pub zero_for_the_same : ZeroForTheSame
-unfolding distance_of
 zero_for_the_same a b e =
     let p = agreed a b e in
-    rw (comparable_one a.variant b.variant p.first p.alike.variant, cost_alike a b p.first p.alike)
+    distance_sum a b (comparable_one a.variant b.variant p.first p.alike.variant) ∙ ap Ok (cost_alike a b p.first p.alike)
 
 -- ---- the same for 0
 
@@ -253,19 +245,19 @@ cost_zero a b f g k v e =
       body = body_zero (bytes_of a.variant) a.body b.body f.body g.body d;
     }
 
-pub same_for_zero : SameForZero
-unfolding distance_of
-same_for_zero a b f g e = go (eqb n 0) refl
+-- a distance is the sum, and is given where the two can be compared
+summed : (a b : Digest) (d : ℕ) → distance_of a b ≡ Ok d → Comparable a.variant b.variant × (cost_of a b ≡ d)
+summed a b d e = go (comparability a.variant b.variant) refl
   where
-    n : ℕ
-    n = comparability a.variant b.variant
+    go : (m : Result (Unit {0}) Refusal) → comparability a.variant b.variant ≡ m → Comparable a.variant b.variant × (cost_of a b ≡ d)
+    go (Ok u) q = (comparable_says a.variant b.variant q, cc (distance_sum a b q, e))
+    go (Err r) q = let f = distance_refused a b r q in cc
 
-    go : (t : Bool) → eqb n 0 ≡ t → same_of a b ≡ record { number = done; same = true }
-    go false s = absurd (eqb-false n 0 s (ap (λ (d : DistanceAnswer). d.number) (rw s at e)))
-    go true s =
-        let p = comparable_says a.variant b.variant (eqb-true n 0 s) in
-        let c : cost_of a b ≡ 0 = ap (λ (d : DistanceAnswer). d.distance) (rw s at e) in
-        agreed_same a b (record { first = p.first; second = p.second; alike = cost_zero a b f g p.first p.one c })
+pub same_for_zero : SameForZero
+same_for_zero a b f g e =
+    let p = summed a b 0 e in
+    agreed_same a b
+    (record { first = p.0.first; second = p.0.second; alike = cost_zero a b f g p.0.first p.0.one p.1 })
 
 -- ---- the greatest
 
@@ -309,13 +301,7 @@ cost_most a b =
     )
 
 pub at_most : AtMost
-unfolding distance_of
-at_most a b = go (eqb (comparability a.variant b.variant) 0)
-  where
-    go : (t : Bool) → (cond t (record { number = done; distance = cost_of a b }) (refused_distance (comparability a.variant b.variant))
-        ).distance ≤ greatest a.variant
-    go true = cost_most a b
-    go false = omega arith
+at_most a b d e = rw (← (summed a b d e).1) (cost_most a b)
 
 -- every pair of codes of a body of zeros and one of ones is 0 against 3
 abbrev at_zeros : ℕ → ℕ
@@ -331,14 +317,13 @@ six_all zero h = refl
 six_all (suc n) h = omega (arith, six_all n (omega arith), six_each n (omega arith))
 
 pub reached : Reached
-unfolding distance_of cost_of length_cost ratio_cost checksum_cost
-reached v k = rw (comparable_one v v k refl, six_all v (known_most v k)) (sum (6 * v))
+unfolding cost_of length_cost ratio_cost checksum_cost
+reached v k =
+    distance_sum (lowest v) (highest v) (comparable_one v v k refl)
+    ∙ rw (six_all v (known_most v k)) (sum (6 * v))
   where
-    answer : ℕ → DistanceAnswer
-    answer d = record { number = done; distance = d }
-
-    sum : (n : ℕ) → answer (n + 1536 + 84 + 84 + 1) ≡ answer (n + 1536 + 168 + 1)
-    sum n = ap answer (omega arith)
+    sum : (n : ℕ) → ◌≡◌ {A = Result ℕ Refusal} (Ok (n + 1536 + 84 + 84 + 1)) (Ok (n + 1536 + 168 + 1))
+    sum n = ap Ok (omega arith)
 
 pub totals : Totals
 totals = (refl, refl, refl)

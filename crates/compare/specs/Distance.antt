@@ -1,11 +1,12 @@
 -- The distance of two digests (docs/RULES.md, section 12): what each pair of fields costs, their sum, and the refusals.
 -- Assumes nothing.
-use Rattle.std.specs.Prelude.{Bool, cond, not, ◌&&◌, ◌||◌, List, ℕ, zero, suc, ◌+◌, ◌-◌, ◌*◌, ◌/◌, ◌%◌, ◌^◌, min, leb, eqb, get_or}
-use Rattle.params.specs.Variants.{known}
-use Rattle.params.specs.Answers.{done, unknown_variant, unlike_digests}
+use Rattle.std.specs.Prelude.{Bool, cond, not, ◌&&◌, ◌||◌, List, ℕ, zero, suc, ◌+◌, ◌-◌, ◌*◌, ◌/◌, ◌%◌, ◌^◌, min, leb, eqb, get_or, ◌≡◌, Result, Ok, Err, MatchResult}
+use Rattle.params.specs.Variants.{known, buckets}
+use Rattle.params.specs.declared.Variant.{Variant}
+use Rattle.params.specs.declared.Refusal.{Refusal}
+use Rattle.params.specs.declared.Refusal.TheVariants.{UnknownVariant, UnlikeDigests}
 use Rattle.params.specs.Words.{apart}
 use Rattle.hash.specs.declared.Digest.{Digest}
-use Rattle.compare.specs.declared.DistanceAnswer.{DistanceAnswer}
 use Rattle.compare.specs.declared.Head.{Head}
 
 -- ---- the body
@@ -60,19 +61,22 @@ cost_of a b =
     + ratio_cost (a.ratios / 16) (b.ratios / 16)
     + checksum_cost a.checksum b.checksum
 
--- a refusal carries the distance 0
-abbrev pub refused_distance : ℕ → DistanceAnswer
-refused_distance n = record { number = n; distance = 0 }
+-- whether digests of two variants can be compared: 6 where one variant is unknown, then 12 where they differ
+unfoldable pub comparability : ℕ → ℕ → Result (Unit {0}) Refusal
+comparability v w = cond (not (known v && known w)) (Err UnknownVariant) (cond (not (eqb v w)) (Err UnlikeDigests) (Ok tt))
 
--- whether digests of two variants can be compared: 6 where one variant is unknown, then 12 where they differ, else 0
-unfoldable pub comparability : ℕ → ℕ → ℕ
-comparability v w = cond (not (known v && known w)) unknown_variant (cond (not (eqb v w)) unlike_digests done)
+-- a number, where nothing is refused
+abbrev pub answered : Result (Unit {0}) Refusal → ℕ → Result ℕ Refusal
+answered (Ok u) n = Ok n
+answered (Err e) n = Err e
 
 -- the sum, where they can be compared
-unfoldable pub distance_of : Digest → Digest → DistanceAnswer
-distance_of a b =
-    cond (eqb (comparability a.variant b.variant) done) (record { number = done; distance = cost_of a b })
-    (refused_distance (comparability a.variant b.variant))
+unfoldable pub distance_of : Digest → Digest → Result ℕ Refusal
+distance_of a b = answered (comparability a.variant b.variant) (cost_of a b)
+
+-- r is the variant that both numbers name, or why digests of the two cannot be compared
+abbrev pub Shares : ℕ → ℕ → Result Variant Refusal → Type 0
+Shares v w r = MatchResult r (λ u. (v ≡ buckets u) × (w ≡ buckets u)) (λ e. comparability v w ≡ Err e)
 
 -- ---- a digest is its head and its body
 

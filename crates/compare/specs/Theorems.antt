@@ -1,8 +1,7 @@
 -- What holds of the distance, as statements.
 -- Assumes nothing.
-use Rattle.std.specs.Prelude.{true, ◌≡◌, ℕ, ◌+◌, ◌*◌, ◌≤◌, ◌<◌, get_or, replicate}
+use Rattle.std.specs.Prelude.{true, ◌≡◌, ℕ, ◌+◌, ◌*◌, ◌≤◌, ◌<◌, get_or, replicate, Ok}
 use Rattle.params.specs.Variants.{known}
-use Rattle.params.specs.Answers.{done}
 use Rattle.hash.specs.declared.Digest.{Digest}
 use Rattle.hash.specs.Digest.{same_of}
 use Rattle.compare.specs.Distance.{distance_of}
@@ -19,12 +18,12 @@ pub record Bytes (d : Digest) : Type 0 where
 
 -- the distance is 0 where the two are the same
 abbrev pub ZeroForTheSame : Type 0
-ZeroForTheSame = (a b : Digest) → (same_of a b).same ≡ true → distance_of a b ≡ record { number = done; distance = 0 }
+ZeroForTheSame = (a b : Digest) → same_of a b ≡ Ok true → distance_of a b ≡ Ok 0
 
 -- and nowhere else
 abbrev pub SameForZero : Type 0
-SameForZero = (a b : Digest) → Bytes a → Bytes b → distance_of a b ≡ record { number = done; distance = 0 }
-    → same_of a b ≡ record { number = done; same = true }
+SameForZero = (a b : Digest) → Bytes a → Bytes b → distance_of a b ≡ Ok 0
+    → same_of a b ≡ Ok true
 
 -- the greatest distance of a variant: 6 for each code, 12 · 128 for the length code, 12 · 7 for each ratio, 1 for the checksum
 abbrev pub greatest : ℕ → ℕ
@@ -32,7 +31,7 @@ greatest v = 6 * v + 12 * 128 + 2 * (12 * 7) + 1
 
 -- no distance is greater
 abbrev pub AtMost : Type 0
-AtMost = (a b : Digest) → (distance_of a b).distance ≤ greatest a.variant
+AtMost = (a b : Digest) (d : ℕ) → distance_of a b ≡ Ok d → d ≤ greatest a.variant
 
 -- two digests with all codes 0 against 3, and the other fields as far apart as they can be
 abbrev pub lowest : ℕ → Digest
@@ -43,7 +42,7 @@ highest v = record { body = replicate 64 255; variant = v; checksum = 1; length_
 
 -- in every variant it is reached
 abbrev pub Reached : Type 0
-Reached = (v : ℕ) → known v ≡ true → distance_of (lowest v) (highest v) ≡ record { number = done; distance = greatest v }
+Reached = (v : ℕ) → known v ≡ true → distance_of (lowest v) (highest v) ≡ Ok (greatest v)
 
 -- for the short, the normal and the long variant it is
 abbrev pub Totals : Type 0

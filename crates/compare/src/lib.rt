@@ -5,45 +5,14 @@
 // without a carry, and the bytes of the last one are added up (`total`).
 #![tactic(auto)]
 
-ghost use Rattle.std.specs.Prelude.{◌≡◌, true, cond, not, ◌&&◌, ◌+◌, ◌-◌, ◌*◌, ◌≤◌, ◌<◌, min};
-ghost use Rattle.params.specs.Variants.{known};
-ghost use Rattle.params.specs.Answers.{unknown_variant, unlike_digests};
-ghost use Rattle.compare.specs.Distance.{body_cost, length_cost, ratio_cost, checksum_cost, refused_distance, distance_of};
-ghost use Rattle.compare.specs.Distance.{comparability, head_of, with_body, head_cost};
-ghost use Rattle.compare.specs.Lanes.{packed, lane_costs, lane_sum, eight_costs, four_costs};
+ghost use Rattle.std.specs.Prelude.{◌≡◌, ◌+◌, ◌-◌, ◌*◌, ◌≤◌, ◌<◌, min};
+ghost use Rattle.params.specs.Variants.{buckets};
+ghost use Rattle.compare.specs.Distance.{body_cost, length_cost, ratio_cost, checksum_cost, distance_of};
+ghost use Rattle.compare.specs.Distance.{comparability, Shares, head_of, with_body, head_cost};
+ghost use Rattle.compare.specs.Lanes.{lane_costs, lane_sum, eight_costs, four_costs};
 
 use hash::Digest;
-
-// The number of the answer, and the distance; 0 beside a refusal.
-#[repr(C)]
-#[derive(Clone, Copy)]
-pub struct DistanceAnswer {
-    pub number: u32,
-    pub distance: u32,
-}
-
-// A byte in 64 bits.
-fn long(x: u8) -> u64
-    ensures { (result ≡ x) × (result < 256) }
-{
-    x as u64
-}
-
-// Four bytes of a body as one number, the first one lowest.
-fn half_word(b: &[u8; 64], at: usize) -> u64
-    requires { at + 4 ≤ 64 }
-    ensures { (result ≡ packed 4 b.now at) × (result < 4294967296) }
-{
-    long(b[at]) + 256 * long(b[at + 1]) + 65536 * long(b[at + 2]) + 16777216 * long(b[at + 3])
-}
-
-// Eight of them.
-fn word(b: &[u8; 64], at: usize) -> u64
-    requires { at + 8 ≤ 64 }
-    ensures { result ≡ packed 8 b.now at }
-{
-    half_word(b, at) + 4294967296 * half_word(b, at + 4)
-}
+use params::{Refusal, Variant};
 
 // The costs of the eight pairs of bytes of two words, each in its byte.
 //
@@ -73,42 +42,35 @@ fn total(s: u64) -> u32
     (v % 65536) as u32
 }
 
-// The costs of the eight bytes of two bodies from a place on.
-fn eight(x: &[u8; 64], y: &[u8; 64], at: usize) -> u64
-    requires { at + 8 ≤ 64 }
-    ensures { (result ≡ eight_costs x.now y.now at) × (result ≤ 1736164148113840152) }
+// The costs of eight bytes of two bodies.
+fn eight(x: &[u8; 8], y: &[u8; 8]) -> u64
+    ensures { (result ≡ eight_costs x.now y.now 0) × (result ≤ 1736164148113840152) }
 {
-    word_cost(word(x, at), word(y, at))
+    word_cost(u64::from_le_bytes(*x), u64::from_le_bytes(*y))
 }
 
 // Those of 32 bytes, added byte by byte.
-fn four_times_eight(x: &[u8; 64], y: &[u8; 64], at: usize) -> u64
-    requires { at + 32 ≤ 64 }
-    ensures { (result ≡ four_costs x.now y.now at) × (result ≤ 6944656592455360608) }
+fn four_times_eight(x: &[u8; 32], y: &[u8; 32]) -> u64
+    ensures { (result ≡ four_costs x.now y.now 0) × (result ≤ 6944656592455360608) }
 {
-    eight(x, y, at) + eight(x, y, at + 8) + eight(x, y, at + 16) + eight(x, y, at + 24)
+    let (xs, _) = x.as_chunks::<8>();
+    let (ys, _) = y.as_chunks::<8>();
+    eight(&xs[0], &ys[0]) + eight(&xs[1], &ys[1]) + eight(&xs[2], &ys[2]) + eight(&xs[3], &ys[3])
 }
 
-// The cost of the n codes of two bodies of a variant. A short body is eight bytes and the first four of the next eight.
-fn body_cost(x: &[u8; 64], y: &[u8; 64], n: u32) -> u32
-    requires { known n ≡ true }
-    ensures { (result ≡ body_cost n x.now y.now) × (result ≤ 2040) }
+// The cost of two bodies of a variant. A short body is eight bytes and the first four of the next eight.
+fn body_cost(x: &[u8; 64], y: &[u8; 64], variant: Variant) -> u32
+    ensures { (result ≡ body_cost (buckets variant) x.now y.now) × (result ≤ 2040) }
 {
-    if n <= params::SHORT {
-        return total(eight(x, y, 0) + eight(x, y, 8) % 4294967296);
+    let (xs, _) = x.as_chunks::<8>();
+    let (ys, _) = y.as_chunks::<8>();
+    let (us, _) = x.as_chunks::<32>();
+    let (vs, _) = y.as_chunks::<32>();
+    match variant {
+        Variant::Short => total(eight(&xs[0], &ys[0]) + eight(&xs[1], &ys[1]) % 4294967296),
+        Variant::Normal => total(four_times_eight(&us[0], &vs[0])),
+        Variant::Long => total(four_times_eight(&us[0], &vs[0]) + four_times_eight(&us[1], &vs[1])),
     }
-    let first = four_times_eight(x, y, 0);
-    if n <= params::NORMAL {
-        return total(first);
-    }
-    total(first + four_times_eight(x, y, 32))
-}
-
-// A byte in 32 bits.
-fn wide(x: u8) -> u32
-    ensures { (result ≡ x) × (result < 256) }
-{
-    x as u32
 }
 
 // The shorter of the two ways around a circle of n, of which one is d.
@@ -116,14 +78,14 @@ fn circle(n: u32, d: u32) -> u32
     requires { d < n }
     ensures { (result ≡ min d (n - d)) × (2 * result ≤ n) }
 {
-    if d <= n - d { d } else { n - d }
+    d.min(n - d)
 }
 
 // The cost of two length codes.
 fn length_cost(a: u8, b: u8) -> u32
     ensures { (result ≡ length_cost a b) × (result ≤ 1536) }
 {
-    let d = circle(256, (256 + wide(a) - wide(b)) % 256);
+    let d = circle(256, (256 + u32::from(a) - u32::from(b)) % 256);
     if d <= 1 { d } else { 12 * d }
 }
 
@@ -132,61 +94,60 @@ fn ratio_cost(a: u8, b: u8) -> u32
     requires { (a < 16) × (b < 16) }
     ensures { (result ≡ ratio_cost a b) × (result ≤ 84) }
 {
-    let d = circle(16, (16 + wide(a) - wide(b)) % 16);
+    let d = circle(16, (16 + u32::from(a) - u32::from(b)) % 16);
     if d <= 1 { d } else { 12 * (d - 1) }
 }
 
 // The cost of two checksums.
+#[tactic(auto, unfolding(crate::specs::Distance::checksum_cost))]
 fn checksum_cost(a: u8, b: u8) -> u32
     ensures { (result ≡ checksum_cost a b) × (result ≤ 1) }
 {
-    if a == b { 0 } else { 1 }
+    u32::from(a != b)
 }
 
-// A refusal.
-fn refused(number: u32) -> DistanceAnswer
-    ensures { result ≡ refused_distance number }
+// The variant of two digests, of which the second's is looked at only where they differ.
+#[tactic(auto, using(crate::proofs::Answers::refusals))]
+fn shared_variant(v: u32, w: u32) -> Result<Variant, Refusal>
+    ensures { Shares v w result }
 {
-    DistanceAnswer {
-        number,
-        distance: 0,
+    let variant = Variant::try_from(v)?;
+    if v != w {
+        Variant::try_from(w)?;
+        return Err(Refusal::UnlikeDigests);
     }
+    Ok(variant)
 }
 
-// 6 unless both variants are known, then 12 where they differ.
-fn unlike(v: u32, w: u32) -> u32
-    ensures { result ≡ cond (not (known v && known w)) unknown_variant unlike_digests }
-{
-    if !params::is_known(v) {
-        return params::UNKNOWN_VARIANT;
-    }
-    if !params::is_known(w) {
-        return params::UNKNOWN_VARIANT;
-    }
-    params::UNLIKE_DIGESTS
-}
-
-// Whether digests of two variants can be compared: 0; 6 where one variant is unknown, then 12 where they differ.
-pub fn comparable(v: u32, w: u32) -> u32
+/// Whether digests of two variants can be compared. That one is unknown is judged before that they differ.
+pub fn comparable(v: u32, w: u32) -> Result<(), Refusal>
     ensures { result ≡ comparability v w }
 {
-    if v != w {
-        return unlike(v, w);
-    }
-    if !params::is_known(v) {
-        return params::UNKNOWN_VARIANT;
-    }
-    params::DONE
+    shared_variant(v, w)?;
+    Ok(())
 }
 
-// A digest without its body.
+/// A digest without its body.
 #[repr(C)]
-#[derive(Clone, Copy)]
+#[derive(Clone, Copy, Debug, PartialEq, Eq)]
 pub struct Head {
     pub variant: u32,
     pub checksum: u8,
     pub length_code: u8,
     pub ratios: u8,
+}
+
+impl From<&Digest> for Head {
+    ghost from_gives = { λ digest head. head ≡ head_of digest.now };
+
+    fn from(digest: &Digest) -> Head {
+        Head {
+            variant: digest.variant,
+            checksum: digest.checksum,
+            length_code: digest.length_code,
+            ratios: digest.ratios,
+        }
+    }
 }
 
 // The cost of two digests without their bodies.
@@ -196,55 +157,28 @@ fn head_cost(a: Head, b: Head) -> u32
     let length = length_cost(a.length_code, b.length_code);
     let q1 = ratio_cost(a.ratios % 16, b.ratios % 16);
     let q2 = ratio_cost(a.ratios / 16, b.ratios / 16);
-    let checksum = checksum_cost(a.checksum, b.checksum);
-    let sum = length + q1 + q2 + checksum;
-    sum
+    length + q1 + q2 + checksum_cost(a.checksum, b.checksum)
 }
 
-// The distance of two digests whose bodies are lent; 6, then 12. The bodies come last, so that one number is left to keep while they
-// are compared.
-pub fn distance_lent(a: Head, x: &[u8; 64], b: Head, y: &[u8; 64]) -> DistanceAnswer
+/// The distance of two digests whose bodies are lent.
+//
+// The bodies come last, so that one number is left to keep while they are compared.
+pub fn distance_lent(a: Head, x: &[u8; 64], b: Head, y: &[u8; 64]) -> Result<u32, Refusal>
     ensures { result ≡ distance_of (with_body a x.now) (with_body b y.now) }
 {
-    let number = comparable(a.variant, b.variant);
-    if number != params::DONE {
-        return refused(number);
-    }
+    let variant = shared_variant(a.variant, b.variant)?;
     let heads = head_cost(a, b);
-    let lent = body_cost(x, y, a.variant);
-    let distance = lent + heads;
-    DistanceAnswer {
-        number: params::DONE,
-        distance,
-    }
+    Ok(body_cost(x, y, variant) + heads)
 }
 
-// A digest's other fields.
-fn head_of(d: Digest) -> Head
-    ensures { result ≡ head_of d }
+/// The distance of two digests.
+//
+// It does not go by way of `distance_lent`: `body_cost` then has two callers and stays a call of its own, whose answer is one number and
+// need not go through memory.
+pub fn distance(a: &Digest, b: &Digest) -> Result<u32, Refusal>
+    ensures { result ≡ distance_of a.now b.now }
 {
-    Head {
-        variant: d.variant,
-        checksum: d.checksum,
-        length_code: d.length_code,
-        ratios: d.ratios,
-    }
-}
-
-// The distance of two digests; 6, then 12. It does not go by way of `distance_lent`: `body_cost` then has two callers and stays a call of
-// its own, whose answer is one number and need not go through memory.
-pub fn distance(a: Digest, b: Digest) -> DistanceAnswer
-    ensures { result ≡ distance_of a b }
-{
-    let number = comparable(a.variant, b.variant);
-    if number != params::DONE {
-        return refused(number);
-    }
-    let heads = head_cost(head_of(a), head_of(b));
-    let bodies = body_cost(&a.body, &b.body, a.variant);
-    let distance = bodies + heads;
-    DistanceAnswer {
-        number: params::DONE,
-        distance,
-    }
+    let variant = shared_variant(a.variant, b.variant)?;
+    let heads = head_cost(Head::from(a), Head::from(b));
+    Ok(body_cost(&a.body, &b.body, variant) + heads)
 }

@@ -6,13 +6,14 @@
 #![tactic(auto)]
 
 ghost use Rattle.std.specs.Prelude.{◌≡◌, [], ◌∷◌};
-ghost use Rattle.pearson.specs.Table.{table};
-ghost use Rattle.pearson.specs.Mapping.{bucket, lasts};
+ghost use Rattle.pearson.specs.Mapping.{bucket};
 ghost use Rattle.counting.specs.Count.{bump_by, bump};
-ghost use Rattle.counting.specs.Window.{hit, Ran};
+ghost use Rattle.counting.specs.Window.{Ran};
 
-// What a loop carries beside the counters: the checksum, and the tail byte by byte, b3 the nearest.
-#[derive(Clone, Copy)]
+use pearson::Tables;
+
+/// What a loop carries beside the counters: the checksum, and the last four bytes, b3 the nearest.
+#[derive(Clone, Copy, Debug, PartialEq, Eq)]
 pub struct Window {
     pub checksum: u8,
     pub b0: u8,
@@ -21,105 +22,62 @@ pub struct Window {
     pub b3: u8,
 }
 
-// Some more at a counter, which rolls over.
+impl Window {
+    ghost use Rattle.counting.specs.Window.{hit};
+
+    // The six counters of a byte b4 that comes to the window.
+    #[tactic(auto, unfolding(crate::specs::Count::counted, crate::specs::Window::hit))]
+    fn count_six(self, tables: &Tables, counters: &mut [u32; 256], b4: u8)
+        ensures { counters.new ≡ hit tables.now.variant self counters.old b4 }
+    {
+        increment_at(tables, counters, 2, b4, self.b3, self.b2);
+        increment_at(tables, counters, 3, b4, self.b3, self.b1);
+        increment_at(tables, counters, 5, b4, self.b2, self.b1);
+        increment_at(tables, counters, 7, b4, self.b2, self.b0);
+        increment_at(tables, counters, 11, b4, self.b3, self.b0);
+        increment_at(tables, counters, 13, b4, self.b1, self.b0);
+    }
+
+    // One later byte: the checksum, the six counters, and the window moves on.
+    #[tactic(auto, unfolding(crate::specs::Count::checked, crate::specs::Window::moved, crate::specs::Window::moves, crate::specs::Window::hits))]
+    fn slide(self, tables: &Tables, counters: &mut [u32; 256], b4: u8) -> Self
+        ensures { Ran tables.now.variant (b4 ∷ []) counters.old self counters.new result }
+    {
+        self.count_six(tables, counters, b4);
+        Window {
+            checksum: tables.b_mapping(0, b4, self.b3, self.checksum),
+            b0: self.b1,
+            b1: self.b2,
+            b2: self.b3,
+            b3: b4,
+        }
+    }
+}
+
+/// `k` more at a counter, which rolls over.
+#[tactic(auto, unfolding(crate::specs::Count::bump_by))]
 pub fn increment_by(counters: &mut [u32; 256], at: u8, k: u32)
     ensures { counters.new ≡ bump_by counters.old at k }
 {
-    let i = at as usize;
-    let old = counters[i];
-    counters[i] = std::num::wrapping_add_u32(old, k);
+    let i = usize::from(at);
+    counters[i] = counters[i].wrapping_add(k);
 }
 
 // One more at the counter of the variant's mapping of four bytes.
-fn increment_at(
-    t: &[u8; 256],
-    l: &[u8; 256],
-    counters: &mut [u32; 256],
-    variant: u32,
-    a: u8,
-    b: u8,
-    c: u8,
-    d: u8,
-)
-    requires table { t.now ≡ table }
-    requires last { l.now ≡ lasts variant }
-    ensures { counters.new ≡ bump counters.old (bucket variant a b c d) }
+fn increment_at(tables: &Tables, counters: &mut [u32; 256], a: u8, b: u8, c: u8, d: u8)
+    ensures { counters.new ≡ bump counters.old (bucket tables.now.variant a b c d) }
 {
-    increment_by(counters, pearson::b_mapping(t, l, variant, a, b, c, d), 1);
+    increment_by(counters, tables.b_mapping(a, b, c, d), 1);
 }
 
-// The six counters of a byte b4 that comes to a window.
-fn count_six(
-    t: &[u8; 256],
-    l: &[u8; 256],
-    counters: &mut [u32; 256],
-    variant: u32,
-    w: Window,
-    b4: u8,
-)
-    requires table { t.now ≡ table }
-    requires last { l.now ≡ lasts variant }
-    ensures { counters.new ≡ hit variant w counters.old b4 }
-{
-    increment_at(t, l, counters, variant, 2, b4, w.b3, w.b2);
-    increment_at(t, l, counters, variant, 3, b4, w.b3, w.b1);
-    increment_at(t, l, counters, variant, 5, b4, w.b2, w.b1);
-    increment_at(t, l, counters, variant, 7, b4, w.b2, w.b0);
-    increment_at(t, l, counters, variant, 11, b4, w.b3, w.b0);
-    increment_at(t, l, counters, variant, 13, b4, w.b1, w.b0);
-}
-
-// One later byte: the checksum, the six counters, and the window moves on.
-fn slide(
-    t: &[u8; 256],
-    l: &[u8; 256],
-    counters: &mut [u32; 256],
-    variant: u32,
-    w: Window,
-    b4: u8,
-) -> Window
-    requires table { t.now ≡ table }
-    requires last { l.now ≡ lasts variant }
-    ensures { Ran variant (b4 ∷ []) counters.old w counters.new result }
-{
-    let checksum = pearson::b_mapping(t, l, variant, 0, b4, w.b3, w.checksum);
-    count_six(t, l, counters, variant, w, b4);
-    Window {
-        checksum: checksum,
-        b0: w.b1,
-        b1: w.b2,
-        b2: w.b3,
-        b3: b4,
-    }
-}
-
-// The plain loop over later bytes.
-fn run(
-    t: &[u8; 256],
-    l: &[u8; 256],
-    counters: &mut [u32; 256],
-    variant: u32,
-    w: Window,
-    bytes: &[u8],
-) -> Window
-    requires table { t.now ≡ table }
-    requires last { l.now ≡ lasts variant }
+/// The counters and the window after later bytes, one by one.
+#[tactic(auto, using(crate::proofs::Laws::runs_none, crate::proofs::Laws::runs_all))]
+pub fn one_by_one(counters: &mut [u32; 256], variant: u32, mut w: Window, bytes: &[u8]) -> Window
     ensures { Ran variant bytes.now counters.old w counters.new result }
 {
-    let mut next = w;
-    let mut i = 0;
-    while i < bytes.len() {
-        next = slide(t, l, counters, variant, next, bytes[i]);
-        i += 1;
+    let tables = Tables::new(variant);
+    for &b in bytes {
+        w = w.slide(&tables, counters, b);
     }
-    next
-}
-
-// The counters and the window after later bytes, one by one.
-pub fn one_by_one(counters: &mut [u32; 256], variant: u32, w: Window, bytes: &[u8]) -> Window
-    ensures { Ran variant bytes.now counters.old w counters.new result }
-{
-    let t = pearson::subst_table();
-    let l = pearson::last_table(variant);
-    run(&t, &l, counters, variant, w, bytes)
+    w
 }

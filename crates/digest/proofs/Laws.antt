@@ -1,95 +1,108 @@
 -- Reading to the end.
 -- Assumes nothing.
-use mathlib.Core.Path.{◌≡◌, refl, ◌∙◌, ap}
-use mathlib.Core.List.{List, [], ◌++◌}
-use Prim.Native.Nat.{ℕ, suc, ◌+◌, ◌%◌, ◌<◌, ◌≤◌, ◌^◌}
-use native.Mathlib.Omega.{arith}
-use lib.IntN.{pos}
-use lib.ListN.{take}
+use Rattle.std.proofs.Common.{◌≡◌, refl, sym, ◌∙◌, ap, ℕ, suc, ◌+◌, ◌%◌, ◌<◌, ◌≤◌, ◌^◌, List, [], ◌++◌, take, pos, negsuc, Result, Ok, Err, true, inl, inr, arith}
+use Rattle.std.specs.Prelude.{IsErrAnd, IsOk}
+use Rattle.params.specs.declared.Refusal.{Refusal}
+use Rattle.params.specs.declared.Variant.TheVariants.{Normal, Long}
 use Rattle.params.specs.Variants.{known}
-use Rattle.reading.specs.declared.Got.{Got}
-use Rattle.reading.specs.Reading.{Read, Arrived, none, more}
+use Rattle.params.proofs.Variants.{known_buckets}
+use Rattle.reading.specs.Reading.{Read, Arrived, none, more, answered}
 use Rattle.reading.proofs.Bytes.{arrived_enough}
 use Rattle.generate.specs.declared.State.{State}
-use Rattle.generate.specs.declared.StateAnswer.{StateAnswer}
 use Rattle.generate.specs.Feed.{feed, fresh}
-use Rattle.generate.specs.Answer.{marked, new_answer, updated}
-use Rattle.generate.proofs.Chunks.{two_updates}
-use Rattle.digest.specs.declared.Turn.{Turn}
-use Rattle.digest.specs.Turns.{Follows, Turned, Ended}
+use Rattle.generate.specs.Answer.{Updated, marked, new_answer, updated}
+use Rattle.generate.proofs.Chunks.{updated_none, two_updates}
+use Rattle.digest.specs.Turns.{Turned, Ended}
 
--- a read that met the end or failed
-pub turned_last : (k : ℕ) (s : State) (block : List ℕ) (got : Got) → Read (pos 0) k block got → (got.kind ≡ 0 → ⊥)
-    → Turned k s (record { kind = got.kind; state = s })
-turned_last k s block got p h =
-    record {
-      more = λ e. absurd (h e);
-      last = λ _. record { block = block; got = got; read = p; is = refl };
-      same = λ _. refl;
-    }
+-- a read that failed leaves the state
+pub turned_failed : {E : Type 0} (k : ℕ) (s : State) (block : List ℕ) (P : E → Type 0) (r : Result ℕ E) → IsErrAnd r P
+    → Read (pos 0) k block (negsuc 0) → Turned k s s (answered r)
+turned_failed k s block P (Ok n) a p = absurd a
+turned_failed k s block P (Err e) a p = record { block = block; read = p; is = updated_none s }
 
--- a read whose bytes were all fed
-pub turned_more : (k : ℕ) (s : State) (block : List ℕ) (got : Got) (u : StateAnswer) → Read (pos 0) k block got → got.kind ≡ 0
-    → u ≡ updated s (take got.count block) → Turned k s (record { kind = got.kind; state = u.state })
-turned_more k s block got u p z e =
-    record {
-      more = λ _. record { block = block; got = got; read = p; bytes = z; is = ap (λ (v : StateAnswer). v.state) e };
-      last = λ no. absurd (no z);
-      same = λ no. absurd (no z);
-    }
-
--- from read to read: the bytes of all reads before number k have been taken in
-pub record Held (s : State) (k : ℕ) : Type 0 where
+-- from read to read: the bytes of all reads before number k have been taken in, one at each of i turns
+pub record Held (s : State) (k i : ℕ) : Type 0 where
   pub bytes : List ℕ
   pub arrived : Arrived (pos 0) k bytes
   pub is : s ≡ (updated (fresh 128) bytes).state
+  pub turns : k ≡ i
+
+-- a known variant has a fresh state
+fresh_given : (v : ℕ) → known v ≡ true → new_answer v ≡ Ok (fresh v)
+unfolding new_answer
+fresh_given v k = rw k refl
+
+-- and so it is not refused
+pub fresh_ok : (v : ℕ) (r : Result State Refusal) → r ≡ new_answer v → known v ≡ true → IsOk r
+fresh_ok v r e k = rw (e, fresh_given v k) refl
+
+pub known_normal : known 128 ≡ true
+known_normal = known_buckets Normal
+
+pub known_long : known 256 ≡ true
+known_long = known_buckets Long
 
 -- before the first read
-pub held_none : (m : StateAnswer) → m ≡ new_answer 128 → Held m.state 0
-unfolding new_answer updated feed fresh known marked
-held_none m e = record { bytes = []; arrived = none; is = ap (λ (a : StateAnswer). a.state) e }
+pub held_none : (r : Result State Refusal) (s : State) → r ≡ new_answer 128 → r ≡ Ok s → Held s 0 0
+held_none r s e f =
+    let is : s ≡ fresh 128 = grind (arith, e, f, fresh_given 128 known_normal) in
+    rw is record { bytes = []; arrived = none; is = updated_none (fresh 128); turns = refl }
 
 -- a count that has not reached 2^32 does not roll over
-one_more : (k l blocks : ℕ) → k < blocks → blocks ≤ 4_294_967_296 → l ≡ (k + 1) % 2 ^ 64 → l ≡ suc k
-one_more k l blocks h b e = omega arith
+one_more : (k l : ℕ) → k < 4_294_967_296 → l ≡ (k + 1) % 2 ^ 64 → l ≡ suc k
+one_more k l h e = omega arith
 
 -- after a read that gave bytes
-pub held_more : (s : State) (r : Turn) (k l blocks : ℕ) → Held s k → k < blocks → blocks ≤ 4_294_967_296 → r.kind ≡ 0 → Turned k s r
-    → l ≡ (k + 1) % 2 ^ 64 → Held r.state l
-held_more s r k l blocks p h b z t o =
-    let f : Follows k s r.state = t.more z in
-    let bytes : List ℕ = take f.got.count f.block in
-    rw (one_more k l blocks h b o) record {
+pub held_more : (s t : State) (k l i n : ℕ) → Held s k i → i < 4_294_967_296 → Turned k s t (pos n) → (n ≡ 0 → ⊥)
+    → l ≡ (k + 1) % 2 ^ 64 → Held t l (i + 1)
+held_more s t k l i n p h u some e =
+    let bytes : List ℕ = take n u.block in
+    rw (one_more k l (omega (arith, h, p.turns)) e) record {
       bytes = p.bytes ++ bytes;
-      arrived = more k p.bytes f.block f.got p.arrived f.read f.bytes;
-      is = f.is ∙ ap (λ (u : State). (updated u bytes).state) p.is
-          ∙ ap (λ (u : StateAnswer). u.state) (two_updates (fresh 128) p.bytes bytes);
+      arrived = more k n p.bytes u.block p.arrived u.read (omega (arith, some));
+      is = u.is ∙ ap (λ (v : State). (updated v bytes).state) p.is ∙ ap (λ (v : Updated). v.state) (two_updates (fresh 128) p.bytes bytes);
+      turns = omega (arith, p.turns);
     }
 
 fed_of : (s : State) (bytes : List ℕ) → s ≡ (updated (fresh 128) bytes).state → s ≡ feed bytes (fresh 128)
 unfolding updated fresh known marked
 fed_of s bytes e = e
 
--- after a read that met the end or failed
-pub held_last : (s : State) (r : Turn) (k : ℕ) → Held s k → (r.kind ≡ 0 → ⊥) → Turned k s r → Ended r
-held_last s r k p h t =
+-- after a read that failed
+pub held_failed : {E : Type 0} (s t : State) (k i : ℕ) (P : E → Type 0) (r : Result State E) → IsErrAnd r P → Held s k i
+    → Turned k s t (negsuc 0) → Ended r
+held_failed s t k i P (Ok n) a p u = absurd a
+held_failed s t k i P (Err e) a p u =
     record {
       reads = k;
       bytes = p.bytes;
       arrived = p.arrived;
-      is = t.same h ∙ fed_of s p.bytes p.is;
-      last = t.last;
-      enough = λ e. absurd (h e);
+      is = tt;
+      last = tt;
+      failed = record { block = u.block; read = u.read };
+    }
+
+-- after one that met the end
+pub held_end : {E : Type 0} (s t : State) (k i n : ℕ) → Held s k i → Turned k s t (pos n) → n ≡ 0 → Ended {E = E} (Ok t)
+held_end s t k i n p turned z =
+    let u : Turned k s t (pos 0) = rw z at turned in
+    record {
+      reads = k;
+      bytes = p.bytes;
+      arrived = p.arrived;
+      is = u.is ∙ sym (updated_none s) ∙ fed_of s p.bytes p.is;
+      last = inl record { block = u.block; read = u.read };
+      failed = tt;
     }
 
 -- no more is read
-pub held_end : (s : State) (k blocks : ℕ) → Held s k → blocks ≤ k → 4_294_967_296 ≤ blocks → Ended (record { kind = 0; state = s })
-held_end s k blocks p h b =
+pub held_enough : {E : Type 0} (s : State) (k i : ℕ) → Held s k i → 4_294_967_296 ≤ i → Ended {E = E} (Ok s)
+held_enough s k i p h =
     record {
       reads = k;
       bytes = p.bytes;
       arrived = p.arrived;
       is = fed_of s p.bytes p.is;
-      last = λ no. absurd (no refl);
-      enough = λ _. omega (arith, arrived_enough (pos 0) k p.bytes p.arrived);
+      last = inr (omega (arith, h, p.turns, arrived_enough (pos 0) k p.bytes p.arrived));
+      failed = tt;
     }

@@ -1,7 +1,7 @@
 -- What is promised of every digest that finalizing gives, as a statement.
 -- Assumes nothing.
-use Rattle.std.specs.Prelude.{ℕ, ◌<◌, ◌≡◌, length}
-use Rattle.params.specs.Answers.{done}
+use Rattle.std.specs.Prelude.{ℕ, ◌<◌, ◌≡◌, length, Ok}
+use Rattle.hash.specs.declared.Digest.{Digest}
 use Rattle.hash.specs.Digest.{Made}
 use Rattle.generate.specs.declared.State.{State}
 use Rattle.finalize.specs.Final.{finalized}
@@ -10,4 +10,4 @@ use Rattle.finalize.specs.Final.{finalized}
 -- counters and a checksum of one byte, reached or not
 abbrev pub StatesGetMade : Type 0
 StatesGetMade = (s : State) (n : ℕ) → length s.counters ≡ 256 → s.checksum < 256
-    → (finalized s n).number ≡ done → Made (finalized s n).digest × ((finalized s n).digest.variant ≡ s.variant)
+    → (d : Digest) → finalized s n ≡ Ok d → Made d × (d.variant ≡ s.variant)

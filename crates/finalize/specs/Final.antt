@@ -1,9 +1,9 @@
 -- Finalizing, in the order of its steps (docs/RULES.md, sections 4 and 6). The state is only read.
 -- Assumes nothing.
-use Rattle.std.specs.Prelude.{ℕ, Bool, cond, List, ltb, eqb, take}
-use Rattle.params.specs.Words.{unless}
-use Rattle.params.specs.Answers.{done, too_large_input, too_small_input, three_quarter_empty, half_empty}
-use Rattle.length.specs.declared.Coded.{Coded}
+use Rattle.std.specs.Prelude.{ℕ, Bool, cond, List, ltb, eqb, take, Option, unwrap_or, Result, Ok, Err}
+use Rattle.params.specs.Words.{unless, and_then}
+use Rattle.params.specs.declared.Refusal.{Refusal}
+use Rattle.params.specs.declared.Refusal.TheVariants.{TooLargeInput, TooSmallInput, ThreeQuarterEmpty, HalfEmpty}
 use Rattle.length.specs.Code.{coded}
 use Rattle.length.specs.Limits.{minimum, maximum}
 use Rattle.quartile.specs.declared.Quartiles.{Quartiles}
@@ -12,24 +12,17 @@ use Rattle.quartile.specs.Counts.{non_zero}
 use Rattle.qratios.specs.Ratios.{ratios_byte}
 use Rattle.body.specs.Body.{body_of}
 use Rattle.hash.specs.declared.Digest.{Digest}
-use Rattle.hash.specs.Digest.{zero_digest}
 use Rattle.generate.specs.declared.State.{State}
 use Rattle.generate.specs.Feed.{fresh, feed}
-use Rattle.generate.specs.Answer.{LengthAnswer, processed}
+use Rattle.generate.specs.Answer.{processed}
 use Rattle.options.specs.declared.Options.{Options}
-use Rattle.options.specs.declared.Chosen.{Chosen}
 use Rattle.options.specs.Options.{chosen}
-use Rattle.finalize.specs.declared.Finalized.{Finalized}
-
--- a refusal carries an all-zero digest
-abbrev pub refused : ℕ → Finalized
-refused n = record { number = n; digest = zero_digest }
 
 -- ---- 1. the length
 
 -- a processed length that is unknown counts as 4,294,967,295
-abbrev pub counts_as : LengthAnswer → ℕ
-counts_as a = cond a.is_known a.length 4_294_967_295
+abbrev pub counts_as : Option ℕ → ℕ
+counts_as n = unwrap_or n 4_294_967_295
 
 -- above the maximum, in either mode
 unfoldable pub is_too_large : ℕ → ℕ → Bool
@@ -73,44 +66,41 @@ digest_by q used v checksum code integer =
 -- ---- the steps together
 
 -- steps 3 to 7, on the used counters, the quartile test before the count
-unfoldable pub distributed : List ℕ → ℕ → ℕ → ℕ → Options → Finalized
+unfoldable pub distributed : List ℕ → ℕ → ℕ → ℕ → Options → Result Digest Refusal
 distributed used v checksum code o =
-    cond (is_three_quarter_empty (quartiles used) o) (refused three_quarter_empty)
-    (cond (is_half_empty used v o) (refused half_empty)
-    (record { number = done; digest = digest_by (replaced (quartiles used)) used v checksum code o.integer }))
+    cond (is_three_quarter_empty (quartiles used) o) (Err ThreeQuarterEmpty)
+    (cond (is_half_empty used v o) (Err HalfEmpty)
+    (Ok (digest_by (replaced (quartiles used)) used v checksum code o.integer)))
 
 -- step 2: the code of the length, or its refusal; then the steps after it, on the N used counters
-unfoldable pub with_code : Coded → State → Options → Finalized
-with_code l s o =
-    cond (eqb l.number done)
-    (distributed (take s.variant s.counters) s.variant s.checksum l.code o)
-    (refused l.number)
+unfoldable pub with_code : Result ℕ Refusal → State → Options → Result Digest Refusal
+with_code l s o = and_then l (λ code. distributed (take s.variant s.counters) s.variant s.checksum code o)
 
 -- step 1: the length n; then the steps after it
-unfoldable pub measured : ℕ → State → Options → Finalized
+unfoldable pub measured : ℕ → State → Options → Result Digest Refusal
 measured n s o =
-    cond (is_too_large s.variant n) (refused too_large_input)
-    (cond (is_too_small s.variant n o) (refused too_small_input)
+    cond (is_too_large s.variant n) (Err TooLargeInput)
+    (cond (is_too_small s.variant n o) (Err TooSmallInput)
     (with_code (coded n) s o))
 
 -- from what the processed length is: 6 for another variant, then 19 for a state that no bytes reach, then the steps
-unfoldable pub with_length : LengthAnswer → State → Options → Finalized
-with_length a s o = cond (eqb a.number done) (measured (counts_as a) s o) (refused a.number)
+unfoldable pub with_length : Result (Option ℕ) Refusal → State → Options → Result Digest Refusal
+with_length a s o = and_then a (λ n. measured (counts_as n) s o)
 
 -- a state under five flags
-unfoldable pub finalized_with : State → Options → Finalized
+unfoldable pub finalized_with : State → Options → Result Digest Refusal
 finalized_with s o = with_length (processed s) s o
 
 -- 10 before them
-unfoldable pub finalized_by : Chosen → State → Finalized
-finalized_by c s = cond (eqb c.number done) (finalized_with s c.options) (refused c.number)
+unfoldable pub finalized_by : Result Options Refusal → State → Result Digest Refusal
+finalized_by c s = and_then c (λ o. finalized_with s o)
 
 -- a state under an option number
-unfoldable pub finalized : State → ℕ → Finalized
+unfoldable pub finalized : State → ℕ → Result Digest Refusal
 finalized s n = finalized_by (chosen n) s
 
 -- ---- from bytes
 
 -- the digest of a list of bytes, or its refusal, under a variant and an option number
-unfoldable pub digest_of : ℕ → ℕ → List ℕ → Finalized
+unfoldable pub digest_of : ℕ → ℕ → List ℕ → Result Digest Refusal
 digest_of v n bytes = finalized (feed bytes (fresh v)) n

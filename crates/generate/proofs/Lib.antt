@@ -6,4 +6,5 @@ pub mod Reached
 pub mod Chunks
 mod Loops
 mod Parts
+pub mod Updates
 mod Unique

@@ -6,31 +6,9 @@ use Prim.Native.Nat.{ℕ, ◌≤◌, ◌<◌}
 use native.Mathlib.Omega.{arith}
 use native.Mathlib.Decide.{dec_lt}
 use lib.Dec.{ltb, eqb}
-use borrow.Author.Tests.{lt-ltb, le-ltb, eq-eqb, ne_eqb, ltb-false, eqb-true, not-false}
+use borrow.Author.Tests.{lt-ltb, le-ltb, eq-eqb, ltb-false, eqb-true, not-false}
 use Rattle.generate.specs.Feed.{stop}
 use Rattle.generate.specs.Answer.{marked}
-
-module _ (l n : ℕ) where
-  -- a tail length above 4 is a mark
-  pub marked_tail : 4 < n → true ≡ marked l n
-  unfolding marked
-  marked_tail p = rw (lt-ltb 4 n p)
-
-  module _ (p : n ≤ 4) where
-    -- a length field above its stop is a mark
-    pub marked_length : stop < l → true ≡ marked l n
-    unfolding marked
-    marked_length q = rw (le-ltb 4 n p, lt-ltb stop l q)
-
-    -- a length field of 0 is none
-    pub unmarked_zero : l ≤ stop → l ≡ 0 → false ≡ marked l n
-    unfolding marked
-    unmarked_zero q e = rw (le-ltb 4 n p, le-ltb stop l q, eq-eqb l 0 e)
-
-    -- any other is one beside a tail length below 4
-    pub marked_short : l ≤ stop → (l ≡ 0 → ⊥) → ltb n 4 ≡ marked l n
-    unfolding marked
-    marked_short q e = rw (le-ltb 4 n p, le-ltb stop l q, ne_eqb l 0 e)
 
 -- a length field l and a tail length n with none of the three marks
 pub record Fine (l n : ℕ) : Type 0 where

@@ -9,14 +9,13 @@ use native.Mathlib.Decide.{dec_lt}
 use lib.ListN.{length, get_or, take, drop, length-take}
 use lib.Seq.{take_all}
 use borrow.Author.Tests.{lt-ltb}
+use Rattle.std.specs.Prelude.{None, Some, Ok}
 use Rattle.params.specs.Variants.{known}
-use Rattle.params.specs.Answers.{done}
 use Rattle.pearson.proofs.Values.{bucket_lt}
 use Rattle.counting.specs.Count.{checked}
 use Rattle.generate.specs.declared.State.{State}
 use Rattle.generate.specs.Feed.{fresh, filled, slid, step, feed}
-use Rattle.generate.specs.declared.Processed.TheVariants.{Known, Unknown}
-use Rattle.generate.specs.Answer.{updated, total, answer_of, processed}
+use Rattle.generate.specs.Answer.{updated, total, processed}
 use Rattle.generate.specs.Theorems.{Six, SixExact, Taken, ReachedUnmarked, ShortUnused, FirstBytesOnly, FullStays}
 use Rattle.generate.proofs.Step.{by_step, cut, cut_at, past_the_stop, feed_keeps}
 use Rattle.generate.proofs.Marks.{Fine, fine_unmarked, unmarked_fine}
@@ -119,7 +118,7 @@ four_less v bs = by (dec_lt (feed bs (fresh v)).tail_len 4)
 
 -- a further update of a state that was reached is never refused, and leads on
 pub reached_updated : (v : ℕ) (bs xs : List ℕ) → known v ≡ true
-    → updated (feed bs (fresh v)) xs ≡ record { number = done; state = feed (bs ++ xs) (fresh v) }
+    → updated (feed bs (fresh v)) xs ≡ record { answer = Ok (tt {0}); state = feed (bs ++ xs) (fresh v) }
 unfolding updated
 reached_updated v bs xs e = rw (ap known (variant_stays v bs) ∙ e, reached_unmarked v bs, cut bs xs (fresh v))
 
@@ -140,14 +139,14 @@ first_bytes_only v bs = by (dec_lt (2 ^ 32) (length bs))
 
 module _ (v : ℕ) (bs : List ℕ) (e : known v ≡ true) where
   -- `processed_len` answers the number of bytes where that is below 2^32
-  pub processed_below : length bs < 2 ^ 32 → processed (feed bs (fresh v)) ≡ answer_of (Known (length bs))
+  pub processed_below : length bs < 2 ^ 32 → processed (feed bs (fresh v)) ≡ Ok (Some (length bs))
   unfolding processed
   processed_below h =
       let t : total (feed bs (fresh v)) ≡ length bs = omega (arith, taken v bs) in
       rw (ap known (variant_stays v bs) ∙ e, reached_unmarked v bs, t, lt-ltb (length bs) (2 ^ 32) h)
 
-  -- and that it is unknown from there on
-  pub processed_beyond : 2 ^ 32 ≤ length bs → processed (feed bs (fresh v)) ≡ answer_of Unknown
+  -- and that there is none from there on
+  pub processed_beyond : 2 ^ 32 ≤ length bs → processed (feed bs (fresh v)) ≡ Ok None
   unfolding processed
   processed_beyond h =
       let t : total (feed bs (fresh v)) ≡ 2 ^ 32 = omega (arith, taken v bs) in

@@ -1,12 +1,10 @@
 -- The states that no bytes reach, and what is answered (docs/RULES.md, sections 3 and 6).
 -- Assumes nothing.
-use Rattle.std.specs.Prelude.{Bool, true, false, cond, not, ◌&&◌, ◌||◌, List, ℕ, ◌+◌, ◌^◌, ltb, eqb}
+use Rattle.std.specs.Prelude.{Bool, cond, not, ◌&&◌, ◌||◌, List, ℕ, ◌+◌, ◌^◌, ltb, eqb, Option, None, Some, Result, Ok, Err}
+use Rattle.params.specs.declared.Refusal.{Refusal}
+use Rattle.params.specs.declared.Refusal.TheVariants.{UnknownVariant, UnreachedState}
 use Rattle.params.specs.Variants.{known}
-use Rattle.params.specs.Answers.{done, unknown_variant, unreached_state}
 use Rattle.generate.specs.declared.State.{State}
-use Rattle.generate.specs.declared.StateAnswer.{StateAnswer}
-use Rattle.generate.specs.declared.Processed.{Processed}
-use Rattle.generate.specs.declared.Processed.TheVariants.{Known, Unknown, UnknownVariant, UnreachedState}
 use Rattle.generate.specs.Feed.{fresh, stop, feed}
 
 -- the three marks of a length field l and a tail length n that no bytes reach: a tail length above 4, a length field above its
@@ -15,41 +13,29 @@ unfoldable pub marked : ℕ → ℕ → Bool
 marked l n = ltb 4 n || ltb stop l || not (eqb l 0) && ltb n 4
 
 -- what a state is answered: 6 where its variant is none of the three, then 19 where it has a mark, and else the answer
-abbrev pub judged : {A : Type 0} → State → (ℕ → A) → A → A
-judged s refusal answer =
+abbrev pub judged : {A : Type 0} → State → (Refusal → A) → A → A
+judged s refused answer =
     cond (known s.variant)
-    (cond (marked s.length s.tail_len) (refusal unreached_state) answer)
-    (refusal unknown_variant)
+    (cond (marked s.length s.tail_len) (refused UnreachedState) answer)
+    (refused UnknownVariant)
 
--- what `new` answers; `fresh 0` is the all-zero record
-unfoldable pub new_answer : ℕ → StateAnswer
-new_answer v = cond (known v) (record { number = done; state = fresh v }) (record { number = unknown_variant; state = fresh 0 })
+-- what `new` answers: the fresh state of a variant
+unfoldable pub new_answer : ℕ → Result State Refusal
+new_answer v = cond (known v) (Ok (fresh v)) (Err UnknownVariant)
 
--- what `update` answers: a refusal carries the state it was given
-unfoldable pub updated : State → List ℕ → StateAnswer
-updated s bs = judged s (λ n. record { number = n; state = s }) (record { number = done; state = feed bs s })
+-- what an update answers, and the state after it
+pub record Updated : Type 0 where
+  pub answer : Result (Unit {0}) Refusal
+  pub state : State
 
--- the answer to a question for the processed length: its number, whether the length is known, and the length, 0 where it is not
-pub record LengthAnswer : Type 0 where
-  pub number : ℕ
-  pub is_known : Bool
-  pub length : ℕ
-
--- what each case of `Processed` stands for
-abbrev pub answer_of : Processed → LengthAnswer
-answer_of (Known n) = record { number = done; is_known = true; length = n }
-answer_of Unknown = record { number = done; is_known = false; length = 0 }
-answer_of UnknownVariant = record { number = unknown_variant; is_known = false; length = 0 }
-answer_of UnreachedState = record { number = unreached_state; is_known = false; length = 0 }
+-- what `update` does: where it refuses, the state stays as it was
+unfoldable pub updated : State → List ℕ → Updated
+updated s bs = judged s (λ e. record { answer = Err e; state = s }) (record { answer = Ok tt; state = feed bs s })
 
 -- the processed length: the length field and the tail length
 abbrev pub total : State → ℕ
 total s = s.length + s.tail_len
 
--- what `processed_len` answers: the length is unknown where it reaches 2^32
-unfoldable pub processed : State → LengthAnswer
-processed s =
-    judged s (λ n. record { number = n; is_known = false; length = 0 })
-    (cond (ltb (total s) (2 ^ 32))
-    (record { number = done; is_known = true; length = total s })
-    (record { number = done; is_known = false; length = 0 }))
+-- what `processed_len` answers: no length where it reaches 2^32
+unfoldable pub processed : State → Result (Option ℕ) Refusal
+processed s = judged s Err (Ok (cond (ltb (total s) (2 ^ 32)) (Some (total s)) None))

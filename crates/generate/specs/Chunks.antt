@@ -2,9 +2,8 @@
 -- Assumes nothing.
 use Rattle.std.specs.Prelude.{List, [], ◌∷◌, ◌++◌, ℕ}
 use Rattle.generate.specs.declared.State.{State}
-use Rattle.generate.specs.declared.StateAnswer.{StateAnswer}
 use Rattle.generate.specs.Feed.{feed}
-use Rattle.generate.specs.Answer.{updated}
+use Rattle.generate.specs.Answer.{Updated, updated}
 
 -- the chunks as one list of bytes
 unfoldable pub joined : List (List ℕ) → List ℕ
@@ -17,6 +16,6 @@ feeds [] s = s
 feeds (xs ∷ xss) s = feeds xss (feed xs s)
 
 -- the answer to the last of several updates, each of the state that the one before gave back: the first with xs, then one for each of xss
-unfoldable pub updates : State → List ℕ → List (List ℕ) → StateAnswer
+unfoldable pub updates : State → List ℕ → List (List ℕ) → Updated
 updates s xs [] = updated s xs
 updates s xs (ys ∷ xss) = updates (updated s xs).state ys xss

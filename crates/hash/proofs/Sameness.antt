@@ -1,69 +1,28 @@
 -- When two digests are the same: the laws that `same` cites, and that it is an equivalence, and equality for records that the port makes.
 -- Assumes nothing.
-use mathlib.Core.Path.{◌≡◌, refl, sym, ◌∙◌}
-use mathlib.Core.Bool.{Bool, true, false, not, ◌&&◌, and_comm, true≢false}
+use mathlib.Core.Path.{◌≡◌, refl, sym, ◌∙◌, ap}
+use mathlib.Core.Bool.{Bool, true, false, ◌&&◌, and_comm}
 use mathlib.Core.List.{List}
-use Prim.Native.Nat.{ℕ, zero, suc, ◌+◌, ◌≤◌, ◌<◌}
+use Prim.Native.Nat.{ℕ, zero, suc, ◌≤◌, ◌<◌}
 use native.Mathlib.Nat.{not-suc-le-zero, le_of_suc-le-suc}
-use native.Mathlib.Numerals.{add-one}
 use native.Mathlib.Omega.{arith}
 use lib.Arith.{lt_of_le-ne}
 use lib.Dec.{ltb, eqb}
-use lib.ListN.{length, get_or}
-use lib.Seq.{ext_get_or}
+use Rattle.std.specs.Prelude.{Ok, Err}
+use Rattle.std.specs.Cmp.Lexicographic.{pointwise}
+use Rattle.std.proofs.lemmas.Slice.Eq.{bytes_eq-Decides}
+use Rattle.params.specs.declared.Refusal.TheVariants.{UnknownVariant}
+use lib.ListN.{length, get_or, take}
+use Rattle.std.proofs.lemmas.List.{get_or-take}
+use lib.Seq.{ext_get_or, length-take-le}
 use borrow.Author.Tests.{eq-eqb, eqb-true, eqb-false, ltb-true, ltb-false}
 use Rattle.params.specs.Variants.{known}
-use Rattle.params.specs.Answers.{done, unknown_variant}
+use Rattle.params.proofs.Variants.{known_buckets}
 use Rattle.hash.specs.declared.Digest.{Digest}
 use Rattle.body.specs.Body.{bytes_of}
 use Rattle.hash.specs.Digest.{first_equal, same_fields, same_of, Made}
 use Rattle.hash.specs.Theorems.{are_same, SameReflexive, SameSymmetric, SameTransitive, SameEqual, EqualSame}
 use Rattle.params.proofs.Tests.{and_both}
-
--- what the loop keeps: whether the first i bytes are equal
-pub record Compared (x y : List ℕ) (m i : ℕ) (equal : Bool) : Type 0 where
-  pub within : i ≤ m
-  pub holds : equal ≡ first_equal i x y
-
--- at the start none differs
-pub compared_none : (x y : List ℕ) (m : ℕ) → Compared x y m 0 true
-compared_none x y m = record { within = omega arith; holds = refl }
-
--- a turn compares the next byte
-pub compared_more : (x y : List ℕ) (m i : ℕ) (equal : Bool) → Compared x y m i equal → i < m
-    → Compared x y m (i + 1) (equal && eqb (get_or x i 0) (get_or y i 0))
-compared_more x y m i equal p h = record { within = omega arith; holds = rw (p.holds, add-one i) }
-
--- at the end it is whether all m are
-pub compared_all : (x y : List ℕ) (m i : ℕ) (equal : Bool) → Compared x y m i equal → m ≤ i → equal ≡ first_equal m x y
-compared_all x y m i equal p h =
-    let e : i ≡ m = omega (arith, p.within) in
-    rw (← e) p.holds
-
--- the test for two variants is both tests
-pub both_tested : (v w : ℕ) (k l : Bool) → k ≡ known v → l ≡ known w → (k && l) ≡ (known v && known w)
-both_tested v w k l e f = rw (e, f)
-
--- the answer 6
-pub same_6 : (a b : Digest) (k : Bool) → k ≡ (known a.variant && known b.variant) → not k ≡ true
-    → record { number = unknown_variant; same = false } ≡ same_of a b
-unfolding same_of
-same_6 a b k e n = rw (← e, n)
-
--- the answer 0
-pub same_0 : (a b : Digest) (k bodies : Bool) (m : ℕ) → k ≡ (known a.variant && known b.variant) → not k ≡ false
-    → m ≡ bytes_of a.variant → bodies ≡ first_equal m a.body b.body
-    → record {
-      number = done;
-      same =
-          eqb a.variant b.variant
-          && eqb a.checksum b.checksum
-          && eqb a.length_code b.length_code
-          && eqb a.ratios b.ratios
-          && bodies;
-    } ≡ same_of a b
-unfolding same_of same_fields
-same_0 a b k bodies m e n u q = rw (← e, n, q, u)
 
 -- of one variant, with equal used fields
 pub record Alike (a b : Digest) : Type 0 where
@@ -72,6 +31,12 @@ pub record Alike (a b : Digest) : Type 0 where
   pub length_code : a.length_code ≡ b.length_code
   pub ratios : a.ratios ≡ b.ratios
   pub body : (i : ℕ) → i < bytes_of a.variant → get_or a.body i 0 ≡ get_or b.body i 0
+
+-- two tests that pass alike are equal
+alike_tests : (p q : Bool) → (p ≡ true → q ≡ true) → (q ≡ true → p ≡ true) → p ≡ q
+alike_tests true q f g = sym (f refl)
+alike_tests false true f g = g refl
+alike_tests false false f g = refl
 
 -- what the comparison of the first n entries says
 first_at : (n : ℕ) (x y : List ℕ) → first_equal n x y ≡ true → (i : ℕ) → i < n → get_or x i 0 ≡ get_or y i 0
@@ -90,6 +55,35 @@ at_first zero x y p = refl
 at_first (suc n) x y p =
     let ih = at_first n x y (λ (i : ℕ) (h : i < n). p i (omega arith)) in
     rw (ih, eq-eqb (get_or x n 0) (get_or y n 0) (p n (omega arith)))
+
+-- the comparison is that of the first n entries as lists
+pub first_is : (n : ℕ) (x y : List ℕ) → n ≤ length x → n ≤ length y → pointwise eqb (take n x) (take n y) ≡ first_equal n x y
+first_is n x y p q =
+    alike_tests _ _
+    (λ (e : pointwise eqb (take n x) (take n y) ≡ true).
+    let l : take n x ≡ take n y = (bytes_eq-Decides (take n x) (take n y)).0 e in
+    at_first n x y (λ (i : ℕ) (h : i < n). sym (get_or-take n x i 0 h) ∙ ap (λ (l : List ℕ). get_or l i 0) l ∙ get_or-take n y i 0 h))
+    (λ (e : first_equal n x y ≡ true). (bytes_eq-Decides (take n x) (take n y)).1
+    (ext_get_or 0 (take n x) (take n y) (length-take-le n x p ∙ sym (length-take-le n y q))
+    (λ (i : ℕ) (h : i < length (take n x)).
+    let k : i < n = omega (arith, length-take-le n x p) in
+    get_or-take n x i 0 k ∙ first_at n x y e i k ∙ sym (get_or-take n y i 0 k))))
+
+-- the answer 6, and the answer of two that are known
+pub same_first : (a b : Digest) → known a.variant ≡ false → same_of a b ≡ Err UnknownVariant
+unfolding same_of
+same_first a b k = rw k
+
+pub same_second : (a b : Digest) → known b.variant ≡ false → same_of a b ≡ Err UnknownVariant
+unfolding same_of
+same_second a b k = rw (k, and_comm (known a.variant) false)
+
+pub same_both : (a b : Digest) → known a.variant ≡ true → known b.variant ≡ true → same_of a b ≡ Ok (same_fields a b)
+unfolding same_of
+same_both a b k l = rw (k, l)
+
+-- what the check of `same` takes from here
+pub ruleset same_steps = (same_first, same_second, same_both, known_buckets, first_is)
 
 -- the comparison of the fields passes for no others
 same_alike : (a b : Digest) → same_fields a b ≡ true → Alike a b
@@ -157,12 +151,6 @@ alike_chain a b c p q =
       body = λ (i : ℕ) (h : i < bytes_of a.variant). p.body i h ∙ q.body i (rw (← p.variant) h);
     }
 
--- two tests that pass alike are equal
-alike_tests : (p q : Bool) → (p ≡ true → q ≡ true) → (q ≡ true → p ≡ true) → p ≡ q
-alike_tests true q f g = sym (f refl)
-alike_tests false true f g = g refl
-alike_tests false false f g = refl
-
 -- a digest is the same as itself
 pub same_reflexive : SameReflexive
 unfolding same_of
@@ -188,14 +176,13 @@ pub record Agreed (a b : Digest) : Type 0 where
   pub alike : Alike a b
 
 -- it is given for no others
-pub agreed : (a b : Digest) → (same_of a b).same ≡ true → Agreed a b
-unfolding same_of
+pub agreed : (a b : Digest) → same_of a b ≡ are_same → Agreed a b
 agreed a b e = go (known a.variant) refl (known b.variant) refl
   where
     go : (p : Bool) → known a.variant ≡ p → (q : Bool) → known b.variant ≡ q → Agreed a b
-    go true k true l = record { first = k; second = l; alike = same_alike a b (rw (k, l) at e) }
-    go true k false l = absurd (true≢false (sym (rw (k, l) at e)))
-    go false k q l = absurd (true≢false (sym (rw k at e)))
+    go true k true l = let f : same_fields a b ≡ true = cc (same_both a b k l, e) in record { first = k; second = l; alike = same_alike a b f }
+    go true k false l = let f = same_second a b l in cc
+    go false k q l = let f = same_first a b k in cc
 
 -- and for these
 pub agreed_same : (a b : Digest) → Agreed a b → same_of a b ≡ are_same

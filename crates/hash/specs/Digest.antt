@@ -1,13 +1,13 @@
 -- The digest record, and when two are the same (docs/RULES.md, section 5).
 -- Assumes nothing.
-use Rattle.std.specs.Prelude.{Bool, true, false, cond, not, ◌&&◌, List, ◌≡◌, ℕ, zero, suc, ◌≤◌, ◌<◌, eqb, length, get_or, replicate}
+use Rattle.std.specs.Prelude.{Bool, true, cond, not, ◌&&◌, List, ◌≡◌, ℕ, zero, suc, ◌≤◌, ◌<◌, eqb, length, get_or, replicate, Result, Ok, Err}
 use Rattle.params.specs.Variants.{known}
-use Rattle.params.specs.Answers.{done, unknown_variant}
+use Rattle.params.specs.declared.Refusal.{Refusal}
+use Rattle.params.specs.declared.Refusal.TheVariants.{UnknownVariant}
 use Rattle.body.specs.Body.{bytes_of}
 use Rattle.hash.specs.declared.Digest.{Digest}
-use Rattle.hash.specs.declared.SameAnswer.{SameAnswer}
 
--- the record beside a refusal
+-- the record of zeros
 abbrev pub zero_digest : Digest
 zero_digest = record { body = replicate 64 0; variant = 0; checksum = 0; length_code = 0; ratios = 0 }
 
@@ -36,7 +36,5 @@ same_fields a b =
     && first_equal (bytes_of a.variant) a.body b.body
 
 -- the answer: 6 where one of the two is of no known variant
-unfoldable pub same_of : Digest → Digest → SameAnswer
-same_of a b =
-    cond (not (known a.variant && known b.variant)) (record { number = unknown_variant; same = false })
-    (record { number = done; same = same_fields a b })
+unfoldable pub same_of : Digest → Digest → Result Bool Refusal
+same_of a b = cond (not (known a.variant && known b.variant)) (Err UnknownVariant) (Ok (same_fields a b))

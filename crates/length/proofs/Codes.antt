@@ -12,7 +12,8 @@ use lib.Dec.{ltb}
 use lib.ListN.{length, get_or, drop, drop_of_length-le}
 use lib.Seq.{drop-cons}
 use borrow.Author.Tests.{lt-ltb, le-ltb, ltb-true, ltb-false}
-use Rattle.params.specs.Answers.{done, no_length_code}
+use Rattle.std.specs.Prelude.{Ok, Err}
+use Rattle.params.specs.declared.Refusal.TheVariants.{NoLengthCode}
 use Rattle.length.specs.Tops.{tops}
 use Rattle.length.specs.Code.{first_from, coded}
 use Rattle.length.specs.Theorems.{HasCode, NoCode, ZeroCode}
@@ -51,7 +52,7 @@ passed_more n xs i b h l =
     }
 
 -- a top not below n gives the code
-pub passed_here : (n : ℕ) (xs : List ℕ) (i : ℕ) → Passed n xs i → i < 170 → n ≤ get_or xs i 0 → record { number = done; code = i } ≡ coded n
+pub passed_here : (n : ℕ) (xs : List ℕ) (i : ℕ) → Passed n xs i → i < 170 → n ≤ get_or xs i 0 → Ok i ≡ coded n
 unfolding coded
 passed_here n xs i b h l =
     let c : length xs ≡ 170 = tops_length xs b.table in
@@ -59,13 +60,16 @@ passed_here n xs i b h l =
     rw (← b.table, f, lt-ltb i (length xs) (omega arith))
 
 -- past the last top there is none
-pub passed_all : (n : ℕ) (xs : List ℕ) (i : ℕ) → Passed n xs i → 170 ≤ i → record { number = no_length_code; code = 0 } ≡ coded n
+pub passed_all : (n : ℕ) (xs : List ℕ) (i : ℕ) → Passed n xs i → 170 ≤ i → Err NoLengthCode ≡ coded n
 unfolding coded
 passed_all n xs i b h =
     let c : length xs ≡ 170 = tops_length xs b.table in
     let z : first_from n (drop i xs) ≡ 0 = rw (drop_of_length-le xs {i = i} (omega arith)) in
     let f : first_from n xs ≡ length xs = omega (arith, b.rest, b.within) in
     rw (← b.table, f, le-ltb (length xs) (length xs) (omega arith))
+
+-- what the proof of `length::length_code` cites
+pub ruleset passing = (passed_none, passed_more, passed_here, passed_all)
 
 -- ---- the definition
 
@@ -112,14 +116,15 @@ found n h = omega (arith, tops_count, first_le n tops 169 (omega (arith, tops_co
 -- up to the last top the answer is a code: its top is not below n, and each earlier top is
 pub has_code : HasCode
 unfolding coded
-has_code n h =
-    rw (lt-ltb (first_from n tops) (length tops) (found n h))
-    (record {
-      given = refl;
-      small = omega (arith, found n h, tops_count);
-      reaches = first_reaches n tops (found n h);
-      first = λ k l. first_passes n tops k l;
-    })
+has_code n h = (
+  first_from n tops,
+  record {
+    given = rw (lt-ltb (first_from n tops) (length tops) (found n h));
+    small = omega (arith, found n h, tops_count);
+    reaches = first_reaches n tops (found n h);
+    first = λ k l. first_passes n tops k l;
+  },
+)
 
 -- no top is above the last
 top_le : (i : ℕ) → i < 170 → Dec (i < 169) → get_or tops i 0 ≤ 4_224_281_216
@@ -129,14 +134,14 @@ top_le i h (no l) =
     rw e (omega (arith, last_top))
 
 -- beyond the last top, the search decided
-none_by : (n : ℕ) → 4_224_281_216 < n → Dec (first_from n tops < length tops) → coded n ≡ record { number = no_length_code; code = 0 }
+none_by : (n : ℕ) → 4_224_281_216 < n → Dec (first_from n tops < length tops) → coded n ≡ Err NoLengthCode
 unfolding coded
 none_by n h (yes l) =
     let t = top_le (first_from n tops) (omega (arith, tops_count)) (dec_lt _ _) in
     absurd (omega (arith, first_reaches n tops l))
 none_by n h (no l) = rw (le-ltb (first_from n tops) (length tops) (omega arith))
 
--- beyond the last top there is no code: the answer is 5
+-- beyond the last top there is no code
 pub no_code : NoCode
 no_code n h = none_by n h (dec_lt _ _)
 

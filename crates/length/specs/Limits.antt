@@ -1,8 +1,9 @@
 -- The lengths that a variant takes (docs/RULES.md, section 4, step 1; the values are those of `LengthProcessingInfo`).
 -- Assumes nothing.
-use Rattle.std.specs.Prelude.{ℕ, Bool, true, false, cond, eqb}
+use Rattle.std.specs.Prelude.{ℕ, Bool, true, false, cond, eqb, Result, Ok, Err}
 use Rattle.params.specs.Variants.{known}
-use Rattle.params.specs.Answers.{done, unknown_variant}
+use Rattle.params.specs.declared.Refusal.{Refusal}
+use Rattle.params.specs.declared.Refusal.TheVariants.{UnknownVariant}
 use Rattle.length.specs.declared.Limits.{Limits}
 
 -- the shortest length that a variant takes, in the conservative mode or not
@@ -14,13 +15,8 @@ unfoldable pub maximum : ℕ → ℕ
 maximum v = 4_224_281_216
 
 -- what is answered of a variant
-unfoldable pub limits_of : ℕ → Limits
+unfoldable pub limits_of : ℕ → Result Limits Refusal
 limits_of v =
     cond (known v)
-    (record {
-      number = done;
-      minimum = minimum v false;
-      minimum_conservative = minimum v true;
-      maximum = maximum v;
-    })
-    (record { number = unknown_variant; minimum = 0; minimum_conservative = 0; maximum = 0 })
+    (Ok (record { minimum = minimum v false; minimum_conservative = minimum v true; maximum = maximum v }))
+    (Err UnknownVariant)

@@ -1,8 +1,7 @@
 -- What holds of the top lengths, the codes and the limits, as statements (docs/RULES.md, section 4, steps 1 and 2).
 -- Assumes nothing.
-use Rattle.std.specs.Prelude.{ℕ, ◌≤◌, ◌<◌, ◌≡◌, get_or}
-use Rattle.params.specs.Answers.{done, no_length_code}
-use Rattle.length.specs.declared.Coded.{Coded}
+use Rattle.std.specs.Prelude.{ℕ, ◌≤◌, ◌<◌, ◌≡◌, get_or, Ok, Err}
+use Rattle.params.specs.declared.Refusal.TheVariants.{NoLengthCode}
 use Rattle.length.specs.Tops.{tops}
 use Rattle.length.specs.Code.{coded}
 use Rattle.length.specs.Limits.{maximum}
@@ -11,24 +10,24 @@ use Rattle.length.specs.Limits.{maximum}
 abbrev pub TopsRising : Type 0
 TopsRising = (i j : ℕ) → i < j → j < 170 → get_or tops i 0 < get_or tops j 0
 
--- the answer r to a length n is a code: its top is not below n, and each earlier top is
-pub record IsCode (n : ℕ) (r : Coded) : Type 0 where
-  pub given : r.number ≡ done
-  pub small : r.code < 170
-  pub reaches : n ≤ get_or tops r.code 0
-  pub first : (k : ℕ) → k < r.code → get_or tops k 0 < n
+-- a length n has the code c: c is what is answered, its top is not below n, and each earlier top is
+pub record IsCode (n c : ℕ) : Type 0 where
+  pub given : coded n ≡ Ok c
+  pub small : c < 170
+  pub reaches : n ≤ get_or tops c 0
+  pub first : (k : ℕ) → k < c → get_or tops k 0 < n
 
 -- up to the last top every length has a code
 abbrev pub HasCode : Type 0
-HasCode = (n : ℕ) → n ≤ 4_224_281_216 → IsCode n (coded n)
+HasCode = (n : ℕ) → n ≤ 4_224_281_216 → (c : ℕ) × IsCode n c
 
--- beyond it none has: the answer is 5
+-- beyond it none has
 abbrev pub NoCode : Type 0
-NoCode = (n : ℕ) → 4_224_281_216 < n → coded n ≡ record { number = no_length_code; code = 0 }
+NoCode = (n : ℕ) → 4_224_281_216 < n → coded n ≡ Err NoLengthCode
 
 -- length 0 has code 0
 abbrev pub ZeroCode : Type 0
-ZeroCode = coded 0 ≡ record { number = done; code = 0 }
+ZeroCode = coded 0 ≡ Ok 0
 
 -- the maximum of every variant is the last top
 abbrev pub MaximumTop : Type 0

@@ -9,6 +9,8 @@ ghost use Rattle.std.specs.Prelude.{◌≡◌};
 ghost use Rattle.length.specs.Code.{coded};
 ghost use Rattle.length.specs.Limits.{limits_of};
 
+use params::{Refusal, Variant};
+
 // The top length of each code.
 const TOP_VALUE_BY_ENCODING: [u32; 170] = [
     1, 2, 3, 5, 7, 11, 17, 25, 38, 57, 86, 129, 194, 291, 437, 656, 854, 1110, 1443, 1876, 2439,
@@ -29,70 +31,49 @@ const TOP_VALUE_BY_ENCODING: [u32; 170] = [
     2622945920, 2885240448, 3173764736, 3491141248, 3840255616, 4224281216,
 ];
 
-// The number of the answer, and the code, 0 beside a refusal.
-#[derive(Clone, Copy)]
-pub struct Coded {
-    pub number: u32,
-    pub code: u8,
-}
-
-// The first code whose top length is not below n; 5 where there is none.
-pub fn length_code(n: u32) -> Coded
+/// The first code whose top length is not below n.
+#[tactic(auto, using(crate::proofs::Codes::passing), unfolding(crate::specs::Tops::tops))]
+pub fn length_code(n: u32) -> Result<u8, Refusal>
     ensures { result ≡ coded n }
 {
     let tops = TOP_VALUE_BY_ENCODING;
     let mut i: usize = 0;
     let code = loop {
-        if 170 <= i {
-            return Coded {
-                number: params::NO_LENGTH_CODE,
-                code: 0,
-            };
+        if tops.len() <= i {
+            return Err(Refusal::NoLengthCode);
         }
         if n <= tops[i] {
             break i;
         }
         i += 1;
     };
-    Coded {
-        number: params::DONE,
-        code: code as u8,
-    }
+    Ok(code as u8)
 }
 
-// The number of the answer, and the shortest length in either mode and the longest, 0 beside a refusal.
-#[derive(Clone, Copy)]
+/// The shortest length that a variant takes in either mode, and the longest.
+#[derive(Clone, Copy, Debug, PartialEq, Eq)]
 pub struct Limits {
-    pub number: u32,
     pub minimum: u32,
     pub minimum_conservative: u32,
     pub maximum: u32,
 }
 
-// The lengths that a variant takes; 6 for another variant.
-pub fn limits_of(variant: u32) -> Limits
+/// The lengths that a variant takes.
+#[tactic(auto, unfolding(crate::specs::Limits::limits_of))]
+pub fn limits_of(variant: u32) -> Result<Limits, Refusal>
     ensures { result ≡ limits_of variant }
 {
-    if !params::is_known(variant) {
-        return Limits {
-            number: params::UNKNOWN_VARIANT,
-            minimum: 0,
-            minimum_conservative: 0,
-            maximum: 0,
-        };
-    }
-    if variant == params::SHORT {
-        return Limits {
-            number: params::DONE,
+    let limits = match Variant::try_from(variant)? {
+        Variant::Short => Limits {
             minimum: 10,
             minimum_conservative: 10,
             maximum: 4_224_281_216,
-        };
-    }
-    Limits {
-        number: params::DONE,
-        minimum: 50,
-        minimum_conservative: 128,
-        maximum: 4_224_281_216,
-    }
+        },
+        Variant::Normal | Variant::Long => Limits {
+            minimum: 50,
+            minimum_conservative: 128,
+            maximum: 4_224_281_216,
+        },
+    };
+    Ok(limits)
 }

@@ -2,18 +2,18 @@
 -- Assumes nothing.
 use Rattle.params.proofs.One.{One, OneAnswer, one_answer}
 use Rattle.options.specs.declared.Options.{Options}
-use Rattle.options.specs.contracts.new as new
+use Rattle.options.specs.contracts.Options.new as new
 use Rattle.options.specs.contracts.options_of as options_of
-use Rattle.options.specs.contracts.with_conservative as with_conservative
-use Rattle.options.specs.contracts.set_conservative as set_conservative
-use Rattle.options.specs.contracts.with_integer as with_integer
-use Rattle.options.specs.contracts.set_integer as set_integer
-use Rattle.options.specs.contracts.with_small as with_small
-use Rattle.options.specs.contracts.set_small as set_small
-use Rattle.options.specs.contracts.with_half as with_half
-use Rattle.options.specs.contracts.set_half as set_half
-use Rattle.options.specs.contracts.with_quarter as with_quarter
-use Rattle.options.specs.contracts.set_quarter as set_quarter
+use Rattle.options.specs.contracts.Options.with_conservative as with_conservative
+use Rattle.options.specs.contracts.Options.set_conservative as set_conservative
+use Rattle.options.specs.contracts.Options.with_integer as with_integer
+use Rattle.options.specs.contracts.Options.set_integer as set_integer
+use Rattle.options.specs.contracts.Options.with_small as with_small
+use Rattle.options.specs.contracts.Options.set_small as set_small
+use Rattle.options.specs.contracts.Options.with_half as with_half
+use Rattle.options.specs.contracts.Options.set_half as set_half
+use Rattle.options.specs.contracts.Options.with_quarter as with_quarter
+use Rattle.options.specs.contracts.Options.set_quarter as set_quarter
 
 one_new : OneAnswer new.ended (λ M 𝓤. new.clauses)
 one_new M 𝓤 𝓛 at_mem run κs a g h z y e f = one_answer 𝓤 _ z y

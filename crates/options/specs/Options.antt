@@ -1,9 +1,9 @@
 -- The option number (docs/RULES.md, section 7): 1 conservative, 2 integer ratios, 4 small, 8 half, 16 quarter, added.
 -- Assumes nothing.
-use Rattle.std.specs.Prelude.{ℕ, ◌/◌, ◌%◌, Bool, false, cond, ltb, eqb}
-use Rattle.params.specs.Answers.{done, unknown_option}
+use Rattle.std.specs.Prelude.{ℕ, ◌/◌, ◌%◌, Bool, false, cond, ltb, eqb, Result, Ok, Err}
+use Rattle.params.specs.declared.Refusal.{Refusal}
+use Rattle.params.specs.declared.Refusal.TheVariants.{UnknownOption}
 use Rattle.options.specs.declared.Options.{Options}
-use Rattle.options.specs.declared.Chosen.{Chosen}
 
 -- the five flags as one record
 abbrev pub flags : Bool → Bool → Bool → Bool → Bool → Options
@@ -26,8 +26,8 @@ abbrev pub has_unknown_bit : ℕ → Bool
 has_unknown_bit n = ltb most_options n
 
 -- the flags of a known number; 10 for any other
-unfoldable pub chosen : ℕ → Chosen
+unfoldable pub chosen : ℕ → Result Options Refusal
 chosen n =
     cond (has_unknown_bit n)
-    (record { number = unknown_option; options = clear })
-    (record { number = done; options = flags (has 1 n) (has 2 n) (has 4 n) (has 8 n) (has 16 n) })
+    (Err UnknownOption)
+    (Ok (flags (has 1 n) (has 2 n) (has 4 n) (has 8 n) (has 16 n)))

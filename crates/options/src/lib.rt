@@ -7,137 +7,126 @@
 // A setter by value takes a record and gives back a new one. A setter of a lent record changes one field where it lies.
 #![tactic(auto)]
 
-ghost use Rattle.std.specs.Prelude.{◌≡◌, false};
+ghost use Rattle.std.specs.Prelude.{◌≡◌};
 ghost use Rattle.options.specs.Options.{clear, chosen};
 ghost use Rattle.options.specs.Setters.{with_conservative, with_integer, with_small, with_half, with_quarter};
 
+use params::Refusal;
+
+/// The five flags. All are clear by default.
 #[repr(C)]
-#[derive(Clone, Copy)]
+#[derive(Clone, Copy, Debug, Default, PartialEq, Eq)]
 pub struct Options {
-    pub conservative: bool, // the longer minimum lengths (`length_processing_mode`)
-    pub integer: bool, // the ratios by whole numbers (`pure_integer_qratio_computation`)
-    pub small: bool, // inputs shorter than the minimum (`allow_small_size_files`)
-    pub half: bool, // counters of which half are 0 (`allow_statistically_weak_buckets_half`)
-    pub quarter: bool, // counters of which three quarters are 0 (`allow_statistically_weak_buckets_quarter`)
+    /// The longer minimum lengths (`length_processing_mode`).
+    pub conservative: bool,
+    /// The ratios by whole numbers (`pure_integer_qratio_computation`).
+    pub integer: bool,
+    /// Inputs shorter than the minimum (`allow_small_size_files`).
+    pub small: bool,
+    /// Counters of which half are 0 (`allow_statistically_weak_buckets_half`).
+    pub half: bool,
+    /// Counters of which three quarters are 0 (`allow_statistically_weak_buckets_quarter`).
+    pub quarter: bool,
 }
 
-// The number of the answer, and the options: all clear beside a refusal.
-#[derive(Clone, Copy)]
-pub struct Chosen {
-    pub number: u32,
-    pub options: Options,
-}
-
-// All flags clear: the default.
-pub fn new() -> Options
-    ensures { result ≡ clear }
-{
-    Options {
-        conservative: false,
-        integer: false,
-        small: false,
-        half: false,
-        quarter: false,
-    }
-}
-
-// The greatest option number: all five flags.
+/// The greatest option number: all five flags.
 pub const MOST: u32 = 31;
 
-// The options of a number: 1 conservative, 2 integer, 4 small, 8 half, 16 quarter, added; 10 for any other bit.
-pub fn options_of(n: u32) -> Chosen
+/// The options of a number: 1 conservative, 2 integer, 4 small, 8 half, 16 quarter, added. Any other bit is refused.
+#[tactic(auto, using(crate::proofs::Bits::bits), unfolding(crate::specs::Options::chosen))]
+pub fn options_of(n: u32) -> Result<Options, Refusal>
     ensures { result ≡ chosen n }
 {
     if MOST < n {
-        let options = new();
-        return Chosen {
-            number: params::UNKNOWN_OPTION,
-            options: options,
-        };
+        return Err(Refusal::UnknownOption);
     }
-    Chosen {
-        number: params::DONE,
-        options: Options {
-            conservative: n % 2 == 1,
-            integer: n / 2 % 2 == 1,
-            small: n / 4 % 2 == 1,
-            half: n / 8 % 2 == 1,
-            quarter: n / 16 % 2 == 1,
-        },
+    Ok(Options {
+        conservative: n & 1 != 0,
+        integer: n & 2 != 0,
+        small: n & 4 != 0,
+        half: n & 8 != 0,
+        quarter: n & 16 != 0,
+    })
+}
+
+impl Options {
+    /// All flags clear: the default.
+    pub fn new() -> Options
+        ensures { result ≡ clear }
+    {
+        Options::default()
     }
-}
 
-// The record with `conservative` set to v, the other four as they were.
-pub fn with_conservative(mut o: Options, v: bool) -> Options
-    ensures { result ≡ with_conservative o v }
-{
-    o.conservative = v;
-    o
-}
+    /// The options with `conservative` set to `v`, the other four as they were.
+    pub fn with_conservative(self, v: bool) -> Options
+        ensures { result ≡ with_conservative self v }
+    {
+        Options {
+            conservative: v,
+            ..self
+        }
+    }
 
-// Sets `conservative` to v where the record lies, and leaves the other four.
-pub fn set_conservative(o: &mut Options, v: bool)
-    ensures { o.new ≡ with_conservative o.old v }
-{
-    *o = with_conservative(*o, v);
-}
+    /// Sets `conservative` to `v` where the options lie, and leaves the other four.
+    pub fn set_conservative(&mut self, v: bool)
+        ensures { self.new ≡ with_conservative self.old v }
+    {
+        *self = self.with_conservative(v);
+    }
 
-// The record with `integer` set to v, the other four as they were.
-pub fn with_integer(mut o: Options, v: bool) -> Options
-    ensures { result ≡ with_integer o v }
-{
-    o.integer = v;
-    o
-}
+    /// The options with `integer` set to `v`, the other four as they were.
+    pub fn with_integer(self, v: bool) -> Options
+        ensures { result ≡ with_integer self v }
+    {
+        Options { integer: v, ..self }
+    }
 
-// Sets `integer` to v where the record lies, and leaves the other four.
-pub fn set_integer(o: &mut Options, v: bool)
-    ensures { o.new ≡ with_integer o.old v }
-{
-    *o = with_integer(*o, v);
-}
+    /// Sets `integer` to `v` where the options lie, and leaves the other four.
+    pub fn set_integer(&mut self, v: bool)
+        ensures { self.new ≡ with_integer self.old v }
+    {
+        *self = self.with_integer(v);
+    }
 
-// The record with `small` set to v, the other four as they were.
-pub fn with_small(mut o: Options, v: bool) -> Options
-    ensures { result ≡ with_small o v }
-{
-    o.small = v;
-    o
-}
+    /// The options with `small` set to `v`, the other four as they were.
+    pub fn with_small(self, v: bool) -> Options
+        ensures { result ≡ with_small self v }
+    {
+        Options { small: v, ..self }
+    }
 
-// Sets `small` to v where the record lies, and leaves the other four.
-pub fn set_small(o: &mut Options, v: bool)
-    ensures { o.new ≡ with_small o.old v }
-{
-    *o = with_small(*o, v);
-}
+    /// Sets `small` to `v` where the options lie, and leaves the other four.
+    pub fn set_small(&mut self, v: bool)
+        ensures { self.new ≡ with_small self.old v }
+    {
+        *self = self.with_small(v);
+    }
 
-// The record with `half` set to v, the other four as they were.
-pub fn with_half(mut o: Options, v: bool) -> Options
-    ensures { result ≡ with_half o v }
-{
-    o.half = v;
-    o
-}
+    /// The options with `half` set to `v`, the other four as they were.
+    pub fn with_half(self, v: bool) -> Options
+        ensures { result ≡ with_half self v }
+    {
+        Options { half: v, ..self }
+    }
 
-// Sets `half` to v where the record lies, and leaves the other four.
-pub fn set_half(o: &mut Options, v: bool)
-    ensures { o.new ≡ with_half o.old v }
-{
-    *o = with_half(*o, v);
-}
+    /// Sets `half` to `v` where the options lie, and leaves the other four.
+    pub fn set_half(&mut self, v: bool)
+        ensures { self.new ≡ with_half self.old v }
+    {
+        *self = self.with_half(v);
+    }
 
-// The record with `quarter` set to v, the other four as they were.
-pub fn with_quarter(mut o: Options, v: bool) -> Options
-    ensures { result ≡ with_quarter o v }
-{
-    o.quarter = v;
-    o
-}
+    /// The options with `quarter` set to `v`, the other four as they were.
+    pub fn with_quarter(self, v: bool) -> Options
+        ensures { result ≡ with_quarter self v }
+    {
+        Options { quarter: v, ..self }
+    }
 
-// Sets `quarter` to v where the record lies, and leaves the other four.
-pub fn set_quarter(o: &mut Options, v: bool)
-    ensures { o.new ≡ with_quarter o.old v }
-{
-    *o = with_quarter(*o, v);
+    /// Sets `quarter` to `v` where the options lie, and leaves the other four.
+    pub fn set_quarter(&mut self, v: bool)
+        ensures { self.new ≡ with_quarter self.old v }
+    {
+        *self = self.with_quarter(v);
+    }
 }

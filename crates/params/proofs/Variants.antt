@@ -6,7 +6,9 @@ use Prim.Native.Nat.{ℕ, ◌≤◌}
 use native.Mathlib.Omega.{arith}
 use lib.Dec.{eqb}
 use borrow.Author.Tests.{eqb-true}
-use Rattle.params.specs.Variants.{known}
+use Rattle.params.specs.declared.Variant.{Variant}
+use Rattle.params.specs.declared.Variant.TheVariants.{Short, Normal, Long}
+use Rattle.params.specs.Variants.{known, buckets}
 
 -- a property of 48, 128 and 256 is one of every known variant
 pub by_variant : (P : ℕ → Type 0) → P 48 → P 128 → P 256 → (v : ℕ) → known v ≡ true → P v
@@ -25,3 +27,10 @@ known_least = by_variant (λ v. 48 ≤ v) (omega arith) (omega arith) (omega ari
 
 pub known_most : (v : ℕ) → known v ≡ true → v ≤ 256
 known_most = by_variant (λ v. v ≤ 256) (omega arith) (omega arith) (omega arith)
+
+-- each of the three is known
+pub known_buckets : (v : Variant) → known (buckets v) ≡ true
+unfolding known
+known_buckets Short = refl
+known_buckets Normal = refl
+known_buckets Long = refl

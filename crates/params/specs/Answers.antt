@@ -1,6 +1,8 @@
 -- The number of each answer (docs/RULES.md, section 6). Every number but 0 is a refusal.
 -- Assumes nothing.
-use Rattle.std.specs.Prelude.{ℕ}
+use Rattle.std.specs.Prelude.{ℕ, Result, Ok, Err}
+use Rattle.params.specs.declared.Refusal.{Refusal}
+use Rattle.params.specs.declared.Refusal.TheVariants as R
 
 -- the answer is given
 abbrev pub done : ℕ
@@ -57,3 +59,24 @@ unlike_digests = 12
 -- a state that no bytes can reach, by the three marks
 abbrev pub unreached_state : ℕ
 unreached_state = 19
+
+-- the number of each refusal
+abbrev pub number_of : Refusal → ℕ
+number_of R.TooLargeInput = too_large_input
+number_of R.TooSmallInput = too_small_input
+number_of R.ThreeQuarterEmpty = three_quarter_empty
+number_of R.HalfEmpty = half_empty
+number_of R.NoLengthCode = no_length_code
+number_of R.UnknownVariant = unknown_variant
+number_of R.ShortDestination = short_destination
+number_of R.WrongSize = wrong_size
+number_of R.WrongCharacter = wrong_character
+number_of R.UnknownOption = unknown_option
+number_of R.UnorderedQuartiles = unordered_quartiles
+number_of R.UnlikeDigests = unlike_digests
+number_of R.UnreachedState = unreached_state
+
+-- the number of an answer
+abbrev pub answer_number : {A : Type 0} → Result A Refusal → ℕ
+answer_number (Ok a) = done
+answer_number (Err e) = number_of e

@@ -1,4 +1,4 @@
--- What the answer 0 of the reader says: the text is of the written form, the digest is one that the port makes, and its text is
+-- What it says that a text was read: it is of the written form, the digest is one that the port makes, and its text is
 -- the text that was read. So no two texts are read to one digest.
 -- Assumes nothing.
 use mathlib.Core.Path.{◌≡◌, refl, sym, ◌∙◌, ap}
@@ -9,18 +9,19 @@ use native.Mathlib.Omega.{arith}
 use lib.Dec.{eqb}
 use lib.ListN.{length, get_or, take, drop, replicate, length-append, length-drop, length-replicate}
 use lib.Seq.{take_at}
-use borrow.Author.Tests.{eq-eqb, eqb-true, le-ltb}
+use borrow.Author.Tests.{eqb-true, eqb-false, le-ltb}
 use Rattle.params.specs.Variants.{known}
-use Rattle.params.specs.Answers.{done, unknown_variant, wrong_size, wrong_character}
+use Rattle.std.specs.Prelude.{Ok}
+use Rattle.hash.specs.declared.Digest.{Digest}
 use Rattle.body.proofs.Padded.{padded_small, padded_rest}
 use Rattle.body.specs.Body.{bytes_of}
 use Rattle.hash.specs.Digest.{Made}
 use Rattle.text.specs.Text.{body_text, text_of, text_size, write_of}
-use Rattle.parse.specs.Reading.{is_digit, all_digits, byte_at, bytes_from, body_from, digest_from, digits_of, begins_t1, read_of}
+use Rattle.parse.specs.Reading.{is_digit, all_digits, byte_at, bytes_from, body_from, digest_from, begins_t1, read_of}
 use Rattle.parse.specs.Theorems.{TextAgain, WriteAgain, ReadMade, ReadVariant, OneText}
 use Rattle.params.proofs.Tests.{and_both}
 use Rattle.parse.proofs.Digits.{low_back, high_back, byte_small, digits_head, digits_tail, digits_at}
-use Rattle.parse.proofs.Reading.{length_bytes}
+use Rattle.parse.proofs.Reading.{length_bytes, digits_9, digits_0, read_6, read_8, read_9, read_0}
 
 -- a text of the written form
 pub record Accepted (v : ℕ) (s : List ℕ) : Type 0 where
@@ -29,23 +30,28 @@ pub record Accepted (v : ℕ) (s : List ℕ) : Type 0 where
   pub begins : begins_t1 s ≡ true
   pub digits : all_digits (drop 2 s) ≡ true
 
--- the answer 0 is given for no other
-pub accepted : (v : ℕ) (s : List ℕ) → (read_of v s).number ≡ done → Accepted v s
-unfolding read_of digits_of
-accepted v s e = go (known v) refl (eqb (length s) (text_size v)) refl (begins_t1 s) refl (all_digits (drop 2 s)) refl
+-- a digest is read from no other
+pub accepted : (v : ℕ) (s : List ℕ) (d : Digest) → read_of v s ≡ Ok d → Accepted v s
+accepted v s d e = go (known v) refl (eqb (length s) (text_size v)) refl (begins_t1 s) refl (all_digits (drop 2 s)) refl
   where
     go : (a : Bool) → known v ≡ a → (b : Bool) → eqb (length s) (text_size v) ≡ b → (c : Bool) → begins_t1 s ≡ c → (d : Bool)
         → all_digits (drop 2 s) ≡ d → Accepted v s
     go true p true q true r true t = record { variant = p; size = eqb-true (length s) (text_size v) q; begins = r; digits = t }
-    go true p true q true r false t = let z : wrong_character ≡ done = rw (p, q, r, t) at e in absurd (omega arith)
-    go true p true q false r d t = let z : wrong_character ≡ done = rw (p, q, r) at e in absurd (omega arith)
-    go true p false q c r d t = let z : wrong_size ≡ done = rw (p, q) at e in absurd (omega arith)
-    go false p b q c r d t = let z : unknown_variant ≡ done = rw p at e in absurd (omega arith)
+    go true p true q true r false t =
+        let f = read_0 v s p (eqb-true (length s) (text_size v) q) r in
+        let g = digits_9 v (drop 2 s) t in
+        cc
+    go true p true q false r d t = let f = read_9 v s p (eqb-true (length s) (text_size v) q) r in cc
+    go true p false q c r d t = let f = read_8 v s p (eqb-false (length s) (text_size v) q) in cc
+    go false p b q c r d t = let f = read_6 v s p in cc
 
--- and always for one of it, with the digest of the digits after `T1`
-pub accepted_read : (v : ℕ) (s : List ℕ) → Accepted v s → read_of v s ≡ record { number = done; digest = digest_from v (drop 2 s) }
-unfolding read_of digits_of
-accepted_read v s a = rw (a.variant, eq-eqb _ _ a.size, a.begins, a.digits)
+-- and always from one of it, that of the digits after `T1`
+pub accepted_read : (v : ℕ) (s : List ℕ) → Accepted v s → read_of v s ≡ Ok (digest_from v (drop 2 s))
+accepted_read v s a = read_0 v s a.variant a.size a.begins ∙ digits_0 v (drop 2 s) a.digits
+
+-- so it is that one
+pub read_is : (v : ℕ) (s : List ℕ) (d : Digest) → read_of v s ≡ Ok d → digest_from v (drop 2 s) ≡ d
+read_is v s d e = cc (accepted_read v s (accepted v s d e))
 
 -- the text of the bytes of digits is those digits
 text_back : (cs : List ℕ) (n : ℕ) → length cs ≡ 2 * n → all_digits cs ≡ true → body_text (bytes_from cs) ≡ cs
@@ -153,28 +159,24 @@ module _ (v : ℕ) (s : List ℕ) (a : Accepted v s) where
 
 -- writing what was read gives the text
 pub text_again : TextAgain
-text_again v s read =
-    let a = accepted v s read in
-    rw (accepted_read v s a) (accepted_text v s a)
+text_again v s d read = rw (← read_is v s d read) (accepted_text v s (accepted v s d read))
 
 -- what was read is a digest that the port makes
 pub read_made : ReadMade
-read_made v s read =
-    let a = accepted v s read in
-    rw (accepted_read v s a) (accepted_made v s a)
+read_made v s d read = rw (← read_is v s d read) (accepted_made v s (accepted v s d read))
 
 -- of the variant that was asked for
 pub read_variant : ReadVariant
 unfolding digest_from
-read_variant v s read = rw (accepted_read v s (accepted v s read))
+read_variant v s d read = ap (λ (x : Digest). x.variant) (sym (read_is v s d read))
 
 -- two texts that are read to one digest are one text
 pub one_text : OneText
-one_text v w s t p q e = sym (text_again v s p) ∙ ap text_of e ∙ text_again w t q
+one_text v w s t d p q = sym (text_again v s d p) ∙ text_again w t d q
 
 -- writing what was read leaves the text at the destination's front
 pub write_again : WriteAgain
 unfolding write_of
-write_again v s destination p h =
-    let m = read_made v s p in
-    rw (m.variant, text_again v s p, le-ltb (length destination) (length s) h)
+write_again v s destination d p h =
+    let m = read_made v s d p in
+    rw (m.variant, text_again v s d p, le-ltb (length destination) (length s) h)

@@ -8,16 +8,17 @@ use native.Mathlib.Omega.{arith}
 use lib.Dec.{ltb, eqb}
 use lib.ListN.{length, get_or, take, drop, replicate, length-drop, take-append-drop}
 use lib.Seq.{take_at, length-take-le, get_or-drop}
-use borrow.Author.Tests.{eq-eqb}
-use Rattle.params.specs.Answers.{done, short_destination}
+use Rattle.std.specs.Prelude.{Ok, Err}
+use Rattle.params.specs.declared.Refusal.TheVariants.{ShortDestination}
 use Rattle.params.proofs.Variants.{by_variant}
 use Rattle.hash.specs.declared.Digest.{Digest}
 use Rattle.body.specs.Body.{bytes_of}
 use Rattle.hash.specs.Digest.{Made}
 use Rattle.text.specs.Text.{low_first, body_text, text_of, text_size, write_of}
-use Rattle.parse.specs.Reading.{all_digits, bytes_from, body_from, digest_from, digits_of, begins_t1, read_of}
+use Rattle.parse.specs.Reading.{all_digits, bytes_from, body_from, digest_from, begins_t1, read_of}
 use Rattle.parse.specs.Theorems.{TextRead, TextSizes, ReadWritten}
 use Rattle.parse.proofs.Digits.{digit_good, byte_back}
+use Rattle.parse.proofs.Reading.{digits_0, read_0}
 use Rattle.text.proofs.Writing.{length_text}
 
 -- every entry of a list is a byte
@@ -98,11 +99,11 @@ module _ (d : Digest) (m : Made d) where
 
 -- reading a digest's text gives the digest
 pub text_read : TextRead
-unfolding read_of digits_of
 text_read d m =
-    let l = length_text d m.long in
-    let t : begins_t1 (text_of d) ≡ true = unfold text_of in refl in
-    rw (m.variant, eq-eqb _ _ l, t, digits_good d m) (ap (λ (x : Digest). record { number = done; digest = x }) (digest_back d m))
+    let begins : begins_t1 (text_of d) ≡ true = unfold text_of in refl in
+    read_0 d.variant (text_of d) m.variant (length_text d m.long) begins
+    ∙ digits_0 d.variant (drop 2 (text_of d)) (digits_good d m)
+    ∙ ap Ok (digest_back d m)
 
 -- the text has 32, 72 or 136 characters
 pub text_sizes : TextSizes
@@ -116,10 +117,10 @@ unfolding write_of
 read_written d destination m e = go (ltb (length destination) (length (text_of d))) refl
   where
     go : (b : Bool) → ltb (length destination) (length (text_of d)) ≡ b
-        → read_of d.variant (take (text_size d.variant) (write_of d destination).destination) ≡ record { number = done; digest = d }
+        → read_of d.variant (take (text_size d.variant) (write_of d destination).destination) ≡ Ok d
     go true q =
-        let z : short_destination ≡ done = rw (m.variant, q) at e in
-        absurd (omega arith)
+        let z : Err ShortDestination ≡ Ok tt = rw (m.variant, q) at e in
+        cc
     go false q =
         let rest = drop (length (text_of d)) destination in
         rw (m.variant, q, take_at (text_of d) rest (text_size d.variant) (length_text d m.long)) (text_read d m)

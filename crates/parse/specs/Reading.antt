@@ -1,11 +1,10 @@
 -- Reading a text (docs/RULES.md, sections 5 and 6): exactly the written form, with any bytes.
 -- Assumes nothing.
-use Rattle.std.specs.Prelude.{Bool, true, cond, not, ◌&&◌, ◌||◌, List, [], ◌∷◌, ◌++◌, ℕ, ◌+◌, ◌-◌, ◌*◌, leb, eqb, length, get_or, drop, replicate}
+use Rattle.std.specs.Prelude.{Bool, true, cond, not, ◌&&◌, ◌||◌, List, [], ◌∷◌, ◌++◌, ℕ, ◌+◌, ◌-◌, ◌*◌, leb, eqb, length, get_or, drop, replicate, Result, Ok, Err}
 use Rattle.params.specs.Variants.{known}
-use Rattle.params.specs.Answers.{done, unknown_variant, wrong_size, wrong_character}
+use Rattle.params.specs.declared.Refusal.{Refusal}
+use Rattle.params.specs.declared.Refusal.TheVariants.{UnknownVariant, WrongSize, WrongCharacter}
 use Rattle.hash.specs.declared.Digest.{Digest}
-use Rattle.parse.specs.declared.ReadAnswer.{ReadAnswer}
-use Rattle.hash.specs.Digest.{zero_digest}
 use Rattle.text.specs.Text.{text_size}
 
 -- a digit: 48 to 57 are 0 to 9, and 65 to 70 are A to F
@@ -50,21 +49,17 @@ digest_from v t =
       ratios = byte_at t 4 5;
     }
 
--- a refusal carries an all-zero digest
-abbrev pub refused_read : ℕ → ReadAnswer
-refused_read n = record { number = n; digest = zero_digest }
-
 -- what stands after `T1` answers its digest, or 9 where a character is no digit
-unfoldable pub digits_of : ℕ → List ℕ → ReadAnswer
-digits_of v t = cond (not (all_digits t)) (refused_read wrong_character) (record { number = done; digest = digest_from v t })
+unfoldable pub digits_of : ℕ → List ℕ → Result Digest Refusal
+digits_of v t = cond (not (all_digits t)) (Err WrongCharacter) (Ok (digest_from v t))
 
 -- the first two characters are `T` and `1`
 abbrev pub begins_t1 : List ℕ → Bool
 begins_t1 s = eqb (get_or s 0 0) 84 && eqb (get_or s 1 0) 49
 
 -- the answer: 6 for the variant, 8 for the size, 9 for the characters, in this order
-unfoldable pub read_of : ℕ → List ℕ → ReadAnswer
+unfoldable pub read_of : ℕ → List ℕ → Result Digest Refusal
 read_of v s =
-    cond (not (known v)) (refused_read unknown_variant)
-    (cond (not (eqb (length s) (text_size v))) (refused_read wrong_size)
-    (cond (not (begins_t1 s)) (refused_read wrong_character) (digits_of v (drop 2 s))))
+    cond (not (known v)) (Err UnknownVariant)
+    (cond (not (eqb (length s) (text_size v))) (Err WrongSize)
+    (cond (not (begins_t1 s)) (Err WrongCharacter) (digits_of v (drop 2 s))))

@@ -1,29 +1,26 @@
 // The text of a digest, read (parse.rs, parse/hex_str.rs).
 //
-// The reader takes what the writer writes and no other form. It tests the size, splits `T1` off, and what is left is one
-// function's work (`read_digits`), in which `is_digit` alone judges a character.
+// The reader takes what the writer writes and no other form. It tests the size, splits `T1` off and tests what is left, in which
+// `is_digit` alone judges a character. Only of characters that were tested (`HexDigits`) is a digest made, which cannot fail.
 #![tactic(auto)]
 
-ghost use Rattle.std.specs.Prelude.{◌≡◌, true, ◌+◌, ◌*◌, ◌≤◌, ◌<◌, length};
+ghost use Rattle.std.specs.Prelude.{◌≡◌, true, false, ◌+◌, ◌*◌, ◌≤◌, ◌<◌, length, take, drop, MatchOption};
 ghost use Rattle.std.proofs.lemmas.List.Edits.{sets};
-ghost use Rattle.parse.specs.Reading.{is_digit, value_of, all_digits, byte_at, bytes_from, body_from};
-ghost use Rattle.parse.specs.Reading.{refused_read, digits_of, begins_t1, read_of};
+ghost use Rattle.params.specs.Variants.{buckets};
+ghost use Rattle.body.specs.Body.{bytes_of};
+ghost use Rattle.parse.specs.Reading.{is_digit, value_of, all_digits, byte_at, bytes_from, body_from, digest_from, read_of};
 
 use hash::Digest;
+use params::{Refusal, Variant};
 
-// The number of the answer, and the digest that was read; all zero beside a refusal.
-#[repr(C)]
-#[derive(Clone, Copy)]
-pub struct ReadAnswer {
-    pub number: u32,
-    pub digest: Digest,
-}
-
-// Whether a character is a digit: 0 to 9 or A to F.
+/// Whether a character is a digit: 0 to 9 or A to F.
+//
+// The two ranges are tested apart and joined without a branch, so that the compiler can test sixteen characters at once.
+#[tactic(auto, unfolding(crate::specs::Reading::is_digit))]
 pub fn is_digit(c: u8) -> bool
     ensures { result ≡ is_digit c }
 {
-    ((48 <= c) & (c <= 57)) | ((65 <= c) & (c <= 70))
+    matches!(c, b'0'..=b'9') | matches!(c, b'A'..=b'F')
 }
 
 // The value of a digit.
@@ -31,125 +28,121 @@ fn value_of(c: u8) -> u8
     requires { is_digit c ≡ true }
     ensures { (result ≡ value_of c) × (result < 16) }
 {
-    if c <= 57 { c - 48 } else { c - 55 }
+    if c <= b'9' { c - b'0' } else { c - (b'A' - 10) }
 }
 
-// Whether there are digits alone.
+/// Whether there are digits alone.
+//
+// No character ends the loop early, so that sixteen are tested at once.
 pub fn all_digits(t: &[u8]) -> bool
     ensures { result ≡ all_digits t.now }
 {
     let mut good = true;
-    let mut i = 0;
-    while i < t.len() {
-        good = good & is_digit(t[i]);
-        i += 1;
+    for c in t {
+        good &= is_digit(*c);
     }
     good
 }
 
-// The same of sixteen characters and more, sixteen at a time. The last sixteen may begin among those that were tested.
-fn all_blocks(t: &[u8]) -> bool
-    requires { 16 ≤ length t.now }
-    ensures { result ≡ all_digits t.now }
-{
-    let mut i = 0;
-    while i < t.len() {
-        let at = params::smaller(i, t.len() - 16);
-        if !all_digits(&t[at..at + 16]) {
-            return false;
+// Digits alone: characters that were tested.
+#[derive(Clone, Copy)]
+struct HexDigits<'a> {
+    chars: &'a [u8],
+    ghost good: { all_digits chars.now ≡ true },
+}
+
+impl<'a> HexDigits<'a> {
+    // Sixteen characters and more, tested sixteen at a time. The last sixteen may begin among those that were tested.
+    fn tested(t: &'a [u8]) -> Option<Self>
+        requires { 16 ≤ length t.now }
+        ensures { MatchOption result (all_digits t.now ≡ false) (λ digits. digits.chars.now ≡ t.now) }
+    {
+        for block in t.chunks_exact(16) {
+            if !all_digits(block) {
+                return None;
+            }
         }
-        i += 16;
+        if all_digits(&t[t.len() - 16..]) {
+            Some(HexDigits { chars: t })
+        } else {
+            None
+        }
     }
-    true
-}
 
-// The byte whose low digit stands at one place, and its high digit at another.
-fn byte_at(t: &[u8], low: usize, high: usize) -> u8
-    requires { (all_digits t.now ≡ true) × (low < length t.now) × (high < length t.now) }
-    ensures { result ≡ byte_at t.now low high }
-{
-    value_of(t[low]) + 16 * value_of(t[high])
-}
-
-// Stores the bytes of sixteen digits at a place of a body.
-fn take_block(body: &mut [u8; 64], at: usize, t: &[u8])
-    requires { (all_digits t.now ≡ true) × (length t.now ≡ 16) × (length body.old ≡ 64) × (at + 8 ≤ 64) }
-    ensures { body.new ≡ sets body.old at (bytes_from t.now) }
-{
-    let mut j = 0;
-    while j < 8 {
-        body[at + j] = byte_at(t, 2 * j + 1, 2 * j);
-        j += 1;
+    // The sixteen from a place on.
+    #[tactic(auto, using(crate::proofs::Reading::digits_part))]
+    fn block(self, at: usize) -> Self
+        requires { at + 16 ≤ length self.chars.now }
+        ensures { result.chars.now ≡ take 16 (drop at self.entry.chars.now) }
+    {
+        HexDigits {
+            chars: &self.chars[at..at + 16],
+        }
     }
-}
 
-// The body: m bytes from place 6 on, eight at a time, and 0 after them. The last eight may begin among those that are there.
-fn body_from(t: &[u8], m: usize) -> [u8; 64]
-    requires { (all_digits t.now ≡ true) × (8 ≤ m) × (m ≤ 64) × (length t.now ≡ 6 + 2 * m) }
-    ensures { result ≡ body_from t.now }
-{
-    let mut body = [0u8; 64];
-    let mut i = 0;
-    while i < m {
-        let at = params::smaller(i, m - 8);
-        take_block(&mut body, at, &t[6 + 2 * at..22 + 2 * at]);
-        i += 8;
+    // The byte whose low digit stands at one place, and its high digit at another.
+    fn byte_at(self, low: usize, high: usize) -> u8
+        requires { (low < length self.chars.now) × (high < length self.chars.now) }
+        ensures { result ≡ byte_at self.entry.chars.now low high }
+    {
+        value_of(self.chars[low]) + 16 * value_of(self.chars[high])
     }
-    body
-}
 
-// A refusal.
-fn refused(number: u32) -> ReadAnswer
-    ensures { result ≡ refused_read number }
-{
-    ReadAnswer {
-        number,
-        digest: hash::zero_digest(),
+    // Stores the bytes of sixteen digits at a place of a body.
+    fn store(self, body: &mut [u8; 64], at: usize)
+        requires { (length self.chars.now ≡ 16) × (length body.old ≡ 64) × (at + 8 ≤ 64) }
+        ensures { body.new ≡ sets body.old at (bytes_from self.entry.chars.now) }
+    {
+        for j in 0..8 {
+            body[at + j] = self.byte_at(2 * j + 1, 2 * j);
+        }
     }
-}
 
-// Reads what stands after `T1`, two characters for each byte; 9 where one of them is no digit.
-fn read_digits(variant: u32, m: usize, t: &[u8]) -> ReadAnswer
-    requires { (8 ≤ m) × (m ≤ 64) × (length t.now ≡ 6 + 2 * m) }
-    ensures { result ≡ digits_of variant t.now }
-{
-    if !all_blocks(t) {
-        return refused(params::WRONG_CHARACTER);
+    // The body: m bytes from place 6 on, eight at a time, and 0 after them. The last eight may begin among those that are there.
+    fn body(self, m: usize) -> [u8; 64]
+        requires least { 8 ≤ m }
+        requires most { m ≤ 64 }
+        requires long { length self.chars.now ≡ 6 + 2 * m }
+        ensures { result ≡ body_from self.entry.chars.now }
+    {
+        let mut body = [0; 64];
+        for i in 0..m.div_ceil(8) {
+            let at = (8 * i).min(m - 8);
+            self.block(6 + 2 * at).store(&mut body, at);
+        }
+        body
     }
-    let body = body_from(t, m);
-    ReadAnswer {
-        number: params::DONE,
-        digest: Digest {
-            body,
-            variant,
-            checksum: byte_at(t, 0, 1),
-            length_code: byte_at(t, 2, 3),
-            ratios: byte_at(t, 4, 5),
-        },
+
+    // The digest of the digits after `T1`, two characters for each byte.
+    #[tactic(auto, unfolding(crate::specs::Reading::digest_from))]
+    fn digest(self, variant: Variant) -> Digest
+        requires { length self.chars.now ≡ 6 + 2 * bytes_of (buckets variant) }
+        ensures { result ≡ digest_from (buckets variant) self.entry.chars.now }
+    {
+        Digest {
+            body: self.body(self.chars.len() / 2 - 3),
+            variant: variant.buckets(),
+            checksum: self.byte_at(0, 1),
+            length_code: self.byte_at(2, 3),
+            ratios: self.byte_at(4, 5),
+        }
     }
 }
 
-// Whether a text begins `T1`.
-fn begins_t1(text: &[u8]) -> bool
-    requires { 2 ≤ length text.now }
-    ensures { result ≡ begins_t1 text.now }
-{
-    (text[0] == 84) & (text[1] == 49)
-}
-
-// Reads the text of a variant; 6, then 8, then 9, with an all-zero digest.
-pub fn read_text(variant: u32, text: &[u8]) -> ReadAnswer
+/// Reads the text of a variant. The size is judged before the characters.
+#[tactic(auto, using(crate::proofs::Reading::read_answers))]
+pub fn read_text(variant: u32, text: &[u8]) -> Result<Digest, Refusal>
     ensures { result ≡ read_of variant text.now }
 {
-    if !params::is_known(variant) {
-        return refused(params::UNKNOWN_VARIANT);
+    let variant = Variant::try_from(variant)?;
+    if text.len() != 8 + 2 * body::bytes_of(variant.buckets() as usize) {
+        return Err(Refusal::WrongSize);
     }
-    let m = body::bytes_of(variant as usize);
-    if text.len() != 8 + 2 * m {
-        return refused(params::WRONG_SIZE);
-    }
-    if !begins_t1(text) {
-        return refused(params::WRONG_CHARACTER);
-    }
-    read_digits(variant, m, &text[2..])
+    let [b'T', b'1', digits @ ..] = text else {
+        return Err(Refusal::WrongCharacter);
+    };
+    let Some(digits) = HexDigits::tested(digits) else {
+        return Err(Refusal::WrongCharacter);
+    };
+    Ok(digits.digest(variant))
 }

@@ -1,7 +1,7 @@
 -- The values of the mapping: their ranges, the short variant's rule, and the table for the last byte.
 -- Assumes nothing.
 use mathlib.Core.Path.{◌≡◌, refl}
-use mathlib.Core.Bool.{Bool, true, false, cond, not}
+use mathlib.Core.Bool.{Bool, true, false, cond}
 use mathlib.Core.List.{List, [], ◌∷◌, map}
 use Prim.Native.Nat.{ℕ, ◌<◌, ◌%◌}
 use native.Mathlib.Omega.{arith}
@@ -10,11 +10,9 @@ use lib.Dec.{eqb, ltb}
 use lib.ListN.{get_or, get_or-map}
 use mir.Syntax.{w8}
 use mir.Val.{Fits}
-use borrow.Author.Tests.{ne_eqb, lt-ltb, le-ltb, not-true, not-false}
-use Rattle.params.specs.Variants.{known}
-use Rattle.params.specs.Answers.{done, unknown_variant}
+use borrow.Author.Tests.{ne_eqb, lt-ltb, le-ltb}
 use Rattle.pearson.specs.Table.{table}
-use Rattle.pearson.specs.Mapping.{look, after, mapping, short, own, bucket, lasts, mapped}
+use Rattle.pearson.specs.Mapping.{look, after, mapping, short, own, bucket, lasts}
 use Rattle.pearson.specs.Theorems.{BucketBelow, BucketShort, ShortLow, ShortHigh}
 use Rattle.pearson.proofs.Table.{look_lt}
 
@@ -76,15 +74,3 @@ map_same f e (x ∷ xs) = rw (e x, map_same f e xs)
 pub lasts_other : (v : ℕ) → (v ≡ 48 → ⊥) → lasts v ≡ table
 unfolding lasts own
 lasts_other v n = map_same (own v) (λ x. rw (ne_eqb v 48 n)) table
-
--- what `mapping` answers: 6 for another variant
-pub mapped_unknown : (v a b c d : ℕ) (k : Bool) → k ≡ known v → not k ≡ true
-    → record { number = unknown_variant; value = 0 } ≡ mapped v a b c d
-unfolding mapped
-mapped_unknown v a b c d k e t = rw (← e, not-true k t)
-
--- and else the value
-pub mapped_done : (v a b c d x : ℕ) (k : Bool) → k ≡ known v → not k ≡ false → x ≡ bucket v a b c d
-    → record { number = done; value = x } ≡ mapped v a b c d
-unfolding mapped
-mapped_done v a b c d x k e t f = rw (f, ← e, not-false k t)

@@ -1,10 +1,10 @@
 -- The mapping of four bytes (docs/RULES.md, section 2).
 -- Assumes nothing.
-use Rattle.std.specs.Prelude.{ℕ, ◌%◌, cond, List, map, ltb, eqb, get_or}
+use Rattle.std.specs.Prelude.{ℕ, ◌%◌, cond, List, map, ltb, eqb, get_or, Result, Ok, Err}
 use Rattle.std.specs.Int.Bits.{bit_xor}
 use Rattle.params.specs.Variants.{known}
-use Rattle.params.specs.Answers.{done, unknown_variant}
-use Rattle.pearson.specs.declared.Mapped.{Mapped}
+use Rattle.params.specs.declared.Refusal.{Refusal}
+use Rattle.params.specs.declared.Refusal.TheVariants.{UnknownVariant}
 use Rattle.pearson.specs.Table.{table}
 
 -- the entry of T at i
@@ -36,6 +36,5 @@ unfoldable pub lasts : ℕ → List ℕ
 lasts v = map (own v) table
 
 -- what is answered to a question for one value
-unfoldable pub mapped : ℕ → ℕ → ℕ → ℕ → ℕ → Mapped
-mapped v a b c d =
-    cond (known v) (record { number = done; value = bucket v a b c d }) (record { number = unknown_variant; value = 0 })
+unfoldable pub mapped : ℕ → ℕ → ℕ → ℕ → ℕ → Result ℕ Refusal
+mapped v a b c d = cond (known v) (Ok (bucket v a b c d)) (Err UnknownVariant)

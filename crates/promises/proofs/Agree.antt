@@ -11,6 +11,8 @@ use native.Mathlib.Decide.{dec_lt}
 use lib.Dec.{eqb}
 use lib.ListN.{length, take}
 use borrow.Author.Tests.{lt-ltb, le-ltb, eqb-false}
+use Rattle.std.specs.Prelude.{Option, Result, Ok, Err}
+use Rattle.params.specs.declared.Refusal.{Refusal}
 use Rattle.params.specs.Variants.{known}
 use Rattle.length.specs.Code.{coded}
 use Rattle.quartile.specs.declared.Quartiles.{Quartiles}
@@ -19,7 +21,7 @@ use Rattle.qratios.specs.Demands.{agreeing_third}
 use Rattle.qratios.proofs.Demands.{ratios_agree}
 use Rattle.generate.specs.declared.State.{State}
 use Rattle.generate.specs.Feed.{fresh, feed}
-use Rattle.generate.specs.Answer.{LengthAnswer, processed}
+use Rattle.generate.specs.Answer.{processed}
 use Rattle.generate.proofs.Reached.{variant_stays}
 use Rattle.options.specs.Options.{flags, has, chosen}
 use Rattle.finalize.specs.Final.{counts_as, is_too_small, is_three_quarter_empty, is_half_empty, replaced, digest_by, distributed, with_code}
@@ -43,16 +45,29 @@ records_agree used v checksum code h =
     let o = replaced_ordered used (quartiles used) q refl refl in
     rw (ratios_agree q.q1 q.q2 q.q3 o (replaced_agreeing (quartiles used) (eqb (quartiles used).q3 0) refl h))
 
+-- a code's record is the same by both paths, and a length without a code is refused
+code_agrees : (l : Result ℕ Refusal) (t : State) (c s h q : Bool)
+    → ((code : ℕ)
+    → digest_by (replaced (quartiles (take t.variant t.counters))) (take t.variant t.counters) t.variant t.checksum code
+    false
+    ≡ digest_by (replaced (quartiles (take t.variant t.counters))) (take t.variant t.counters) t.variant t.checksum code
+    true)
+    → with_code l t (flags c false s h q) ≡ with_code l t (flags c true s h q)
+unfolding with_code distributed is_three_quarter_empty is_half_empty
+code_agrees (Ok code) t c s h q e = rw (e code)
+code_agrees (Err x) t c s h q e = refl
+
 -- the tests do not see the ratio flag, so the steps agree where the records do
-steps_agree : (a : LengthAnswer) (t : State) (c s h q : Bool)
+steps_agree : (a : Result (Option ℕ) Refusal) (t : State) (c s h q : Bool)
     → ((code : ℕ)
     → digest_by (replaced (quartiles (take t.variant t.counters))) (take t.variant t.counters) t.variant t.checksum code
     false
     ≡ digest_by (replaced (quartiles (take t.variant t.counters))) (take t.variant t.counters) t.variant t.checksum code
     true)
     → with_length a t (flags c false s h q) ≡ with_length a t (flags c true s h q)
-unfolding with_length measured with_code distributed is_too_small is_three_quarter_empty is_half_empty
-steps_agree a t c s h q e = rw (e (coded (counts_as a)).code)
+unfolding with_length measured is_too_small
+steps_agree (Ok n) t c s h q e = rw (code_agrees (coded (counts_as n)) t c s h q e)
+steps_agree (Err x) t c s h q e = refl
 
 -- without a processed length there is a refusal, by both paths the same
 given_by : (t : State) (k : Bool) → known t.variant ≡ k → (c s h q : Bool)

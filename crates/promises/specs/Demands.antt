@@ -1,14 +1,17 @@
 -- What is promised of whole digests, as statements: when the two ratio paths agree, that a cutting does not matter, which number an
 -- input gets, and that a digest that it gets is a record that the port makes and comes back from its text.
 -- Assumes nothing.
-use Rattle.std.specs.Prelude.{ℕ, ◌+◌, ◌-◌, ◌*◌, ◌≤◌, Bool, true, false, cond, List, ◌≡◌, ltb, eqb, length, get_or, take}
+use Rattle.std.specs.Prelude.{ℕ, ◌+◌, ◌-◌, ◌*◌, ◌≤◌, Bool, true, false, cond, List, ◌≡◌, ◌≢◌, ltb, eqb, length, get_or, take, Ok, IsOkAnd}
+use Rattle.std.specs.Result.{result_unwrap_or}
 use Rattle.params.specs.Words.{sum}
 use Rattle.params.specs.Variants.{known}
 use Rattle.params.specs.Answers.{done, too_large_input, too_small_input, three_quarter_empty, half_empty, unknown_variant, unknown_option}
+use Rattle.params.specs.Answers.{answer_number}
 use Rattle.length.specs.Limits.{maximum}
 use Rattle.quartile.specs.Quartile.{quartiles}
 use Rattle.qratios.specs.Demands.{light_third, agreeing_third}
 use Rattle.body.specs.Body.{bytes_of}
+use Rattle.hash.specs.declared.Digest.{Digest}
 use Rattle.hash.specs.Digest.{zero_digest, Made}
 use Rattle.text.specs.Text.{text_of, text_size}
 use Rattle.parse.specs.Reading.{read_of}
@@ -16,7 +19,7 @@ use Rattle.generate.specs.declared.State.{State}
 use Rattle.generate.specs.Feed.{fresh, feed}
 use Rattle.generate.specs.Chunks.{joined, feeds}
 use Rattle.options.specs.declared.Options.{Options}
-use Rattle.options.specs.Options.{flags, has, has_unknown_bit, chosen}
+use Rattle.options.specs.Options.{clear, flags, has, has_unknown_bit, chosen}
 use Rattle.finalize.specs.Final.{is_too_small, is_three_quarter_empty, is_half_empty, finalized_with, finalized, digest_of}
 use Rattle.saltcurtain.specs.Entries.{digested}
 
@@ -88,34 +91,34 @@ input_number_with v o bytes =
 
 -- 10 and 6 before it
 unfoldable pub input_number : ℕ → ℕ → List ℕ → ℕ
-input_number v n bytes = cond (has_unknown_bit n) unknown_option (cond (known v) (input_number_with v (chosen n).options bytes) unknown_variant)
+input_number v n bytes = cond (has_unknown_bit n) unknown_option (cond (known v) (input_number_with v (result_unwrap_or (chosen n) clear) bytes) unknown_variant)
 
 -- each number is given exactly on its condition; 5 and 19 are no conditions of an input
 abbrev pub ExactNumbers : Type 0
-ExactNumbers = (v n : ℕ) (bytes : List ℕ) → (digest_of v n bytes).number ≡ input_number v n bytes
+ExactNumbers = (v n : ℕ) (bytes : List ℕ) → answer_number (digest_of v n bytes) ≡ input_number v n bytes
 
--- a refusal carries an all-zero digest
+-- a refusal comes without a digest: whoever takes the all-zero one in its place has that one
 abbrev pub ZeroBesideRefusal : Type 0
-ZeroBesideRefusal = (s : State) (n : ℕ) → ((finalized s n).number ≡ done → ⊥) → (finalized s n).digest ≡ zero_digest
+ZeroBesideRefusal = (s : State) (n : ℕ) → answer_number (finalized s n) ≢ done → result_unwrap_or (finalized s n) zero_digest ≡ zero_digest
 
 -- ---- the digest that an input gets
 
 -- where an input gets a digest, that is a record that the port makes, of the variant that was asked for
 abbrev pub InputsGetMade : Type 0
-InputsGetMade = (v n : ℕ) (bytes : List ℕ) → (digest_of v n bytes).number ≡ done
-    → Made (digest_of v n bytes).digest × ((digest_of v n bytes).digest.variant ≡ v)
+InputsGetMade = (v n : ℕ) (bytes : List ℕ) (d : Digest) → digest_of v n bytes ≡ Ok d → Made d × (d.variant ≡ v)
 
 -- the body bytes that its variant doesn't use are 0
 abbrev pub UnusedAreZero : Type 0
-UnusedAreZero = (v n : ℕ) (bytes : List ℕ) → (digest_of v n bytes).number ≡ done
-    → (i : ℕ) → bytes_of v ≤ i → get_or (digest_of v n bytes).digest.body i 0 ≡ 0
+UnusedAreZero = (v n : ℕ) (bytes : List ℕ) (d : Digest) → digest_of v n bytes ≡ Ok d
+    → (i : ℕ) → bytes_of v ≤ i → get_or d.body i 0 ≡ 0
 
 -- its text, read, is that digest
 abbrev pub TextsReadBack : Type 0
-TextsReadBack = (v n : ℕ) (bytes : List ℕ) → (digest_of v n bytes).number ≡ done
-    → read_of v (text_of (digest_of v n bytes).digest) ≡ record { number = done; digest = (digest_of v n bytes).digest }
+TextsReadBack = (v n : ℕ) (bytes : List ℕ) (d : Digest) → digest_of v n bytes ≡ Ok d
+    → read_of v (text_of d) ≡ Ok d
 
 -- so is what the one-shot digest leaves at the front of its destination
 abbrev pub WrittenReadBack : Type 0
-WrittenReadBack = (v n : ℕ) (bytes lent : List ℕ) → (digested v n bytes lent).number ≡ done
-    → read_of v (take (text_size v) (digested v n bytes lent).destination) ≡ record { number = done; digest = (digest_of v n bytes).digest }
+WrittenReadBack = (v n : ℕ) (bytes lent : List ℕ) → (digested v n bytes lent).answer ≡ Ok tt
+    → IsOkAnd (digest_of v n bytes) (λ d.
+    read_of v (take (text_size v) (digested v n bytes lent).destination) ≡ Ok d)

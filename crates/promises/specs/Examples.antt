@@ -2,6 +2,7 @@
 -- Where a question has several answers, both sides list them in turn. The letters 'B' to 'E' are the bytes 66 to 69.
 -- Assumes nothing.
 use Rattle.std.specs.Prelude.{List, [], ◌∷◌, map, ◌≡◌, ℕ, true, false}
+use Rattle.std.specs.Result.{result_unwrap_or}
 use Rattle.pearson.specs.Mapping.{mapping, short, bucket}
 use Rattle.length.specs.Code.{coded}
 use Rattle.qratios.specs.Ratios.{integer_whole, floating_whole, ratio_by}
@@ -31,7 +32,7 @@ examples =
     -- one above 42,949,672 the product by 100 rolls over in 32 bits, and they are not even within one
     record { asked = integer_whole 42_949_673 42_949_673 ∷ floating_whole 42_949_673 42_949_673 ∷ []; answer = 100 ∷ 0 ∷ [] } ∷
     -- the length code of 44 and of 50
-    record { asked = (coded 44).code ∷ (coded 50).code ∷ []; answer = 9 ∷ 9 ∷ [] } ∷
+    record { asked = result_unwrap_or (coded 44) 0 ∷ result_unwrap_or (coded 50) 0 ∷ []; answer = 9 ∷ 9 ∷ [] } ∷
     []
 
 -- every question's answer is the one beside it

@@ -1,8 +1,8 @@
 -- What is promised of the numbers and of the two paths, as statements (docs/RULES.md, section 4, step 6, and section 9).
 -- Assumes nothing.
-use Rattle.std.specs.Prelude.{◌≡◌, ℕ, suc, ◌+◌, ◌*◌, ◌%◌, ◌^◌, ◌<◌, ◌≤◌, true, false}
+use Rattle.std.specs.Prelude.{◌≡◌, ℕ, suc, ◌+◌, ◌*◌, ◌%◌, ◌^◌, ◌<◌, ◌≤◌, true, false, Ok}
 use Rattle.params.specs.Words.{apart}
-use Rattle.params.specs.Answers.{done}
+use Rattle.qratios.specs.declared.Ratios.{Ratios}
 use Rattle.qratios.specs.Single.{Single, top, bottom, bits, single_from_bits, single}
 use Rattle.qratios.specs.Ratios.{integer_whole, floating_whole, ratios_of, byte_answered}
 
@@ -71,9 +71,7 @@ PathsWithinOne = (q q3 : ℕ) → 1 ≤ q3 → q3 ≤ largest_third → q ≤ q3
 -- the same of the whole parts that the entry point's record carries
 abbrev pub RecordWithinOne : Type 0
 RecordWithinOne = (q1 q2 q3 : ℕ) → q1 ≤ q2 → q2 ≤ q3 → 1 ≤ q3 → q3 ≤ largest_third
-    → ((ratios_of q1 q2 q3).number ≡ done)
-    × WithinOne (ratios_of q1 q2 q3).ratios.whole1 (integer_whole q1 q3)
-    × WithinOne (ratios_of q1 q2 q3).ratios.whole2 (integer_whole q2 q3)
+    → (r : Ratios) × (ratios_of q1 q2 q3 ≡ Ok r) × WithinOne r.whole1 (integer_whole q1 q3) × WithinOne r.whole2 (integer_whole q2 q3)
 
 -- a light q3 makes 100 * q exact for every q up to it
 abbrev pub LightIsExact : Type 0
@@ -94,5 +92,4 @@ BytesAgreeFarther = BytesAgreeUpTo agreeing_third
 -- and at the next q3 the bytes differ: 82 mod 16 is 2, and 83 mod 16 is 3
 abbrev pub BytesDiffer : Type 0
 BytesDiffer =
-    (byte_answered true 217_582 217_582 (suc agreeing_third) ≡ record { number = done; byte = 34 })
-    × (byte_answered false 217_582 217_582 (suc agreeing_third) ≡ record { number = done; byte = 51 })
+    (byte_answered true 217_582 217_582 (suc agreeing_third) ≡ Ok 34) × (byte_answered false 217_582 217_582 (suc agreeing_third) ≡ Ok 51)

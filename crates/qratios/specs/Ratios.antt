@@ -1,12 +1,11 @@
 -- The ratios of the first two quartiles to the third, by both paths, and the answers that carry them (docs/RULES.md, section 4, step 6).
 -- Assumes nothing.
-use Rattle.std.specs.Prelude.{ℕ, ◌+◌, ◌*◌, ◌/◌, ◌%◌, ◌^◌, ◌<◌, ◌≤◌, Bool, cond, ◌&&◌, from_bits, nat_le, Float}
+use Rattle.std.specs.Prelude.{ℕ, ◌+◌, ◌*◌, ◌/◌, ◌%◌, ◌^◌, ◌<◌, ◌≤◌, Bool, cond, ◌&&◌, from_bits, nat_le, Float, Result, Ok, Err}
 use Rattle.std.specs.Float.{binary32}
-use Rattle.params.specs.Answers.{done, unordered_quartiles}
+use Rattle.params.specs.declared.Refusal.{Refusal}
+use Rattle.params.specs.declared.Refusal.TheVariants.{UnorderedQuartiles}
 use Rattle.qratios.specs.declared.Ratios.{Ratios}
-use Rattle.qratios.specs.declared.RatiosAnswer.{RatiosAnswer}
-use Rattle.qratios.specs.declared.ByteAnswer.{ByteAnswer}
-use Rattle.qratios.specs.Single.{Single, nought, bits, whole, single, divided}
+use Rattle.qratios.specs.Single.{Single, bits, whole, single, divided}
 
 -- ---- the integer path
 
@@ -44,7 +43,7 @@ pub record UpTo (q q3 : ℕ) : Type 0 where
   pub some : 0 < q3
   pub most : q ≤ q3
 
--- ---- the answers: 11 with an all-zero record unless q1 ≤ q2 ≤ q3 and q3 ≥ 1
+-- ---- the answers: refused unless q1 ≤ q2 ≤ q3 and q3 ≥ 1
 
 -- q1 ≤ q2 ≤ q3 and q3 ≥ 1
 abbrev pub ordered : ℕ → ℕ → ℕ → Bool
@@ -59,15 +58,9 @@ abbrev pub record_of : Single → Single → Ratios
 record_of x1 x2 = record { quotient1 = float x1; quotient2 = float x2; whole1 = whole x1; whole2 = whole x2 }
 
 -- the ratio record of three quartiles
-unfoldable pub ratios_of : ℕ → ℕ → ℕ → RatiosAnswer
-ratios_of q1 q2 q3 =
-    cond (ordered q1 q2 q3)
-    (record { number = done; ratios = record_of (quotient q1 q3) (quotient q2 q3) })
-    (record { number = unordered_quartiles; ratios = record_of nought nought })
+unfoldable pub ratios_of : ℕ → ℕ → ℕ → Result Ratios Refusal
+ratios_of q1 q2 q3 = cond (ordered q1 q2 q3) (Ok (record_of (quotient q1 q3) (quotient q2 q3))) (Err UnorderedQuartiles)
 
 -- both ratios in one byte, by either path
-unfoldable pub byte_answered : Bool → ℕ → ℕ → ℕ → ByteAnswer
-byte_answered integer q1 q2 q3 =
-    cond (ordered q1 q2 q3)
-    (record { number = done; byte = ratios_byte integer q1 q2 q3 })
-    (record { number = unordered_quartiles; byte = 0 })
+unfoldable pub byte_answered : Bool → ℕ → ℕ → ℕ → Result ℕ Refusal
+byte_answered integer q1 q2 q3 = cond (ordered q1 q2 q3) (Ok (ratios_byte integer q1 q2 q3)) (Err UnorderedQuartiles)

@@ -1,107 +1,46 @@
 -- What the proofs of the functions cite: the invariant of each loop with its start, its turns and its end, and the answers.
 -- Assumes nothing.
-use mathlib.Core.Path.{◌≡◌}
-use mathlib.Core.Bool.{Bool, true, false, cond, not}
-use mathlib.Core.List.{List}
-use Prim.Native.Nat.{ℕ, ◌+◌, ◌-◌, ◌/◌, ◌^◌, max, min, ◌≤◌, ◌<◌}
-use native.Mathlib.Numerals.{add-one}
-use native.Mathlib.Omega.{arith}
-use native.Mathlib.Decide.{dec_le}
-use lib.Dec.{leb}
-use lib.ListN.{length, get_or, take, drop, drop_of_length-le, take-append-drop, length-take}
-use lib.Seq.{drop-cons, drop-drop, take_all}
-use borrow.Author.Tests.{le-leb, lt-leb, not-true, not-false}
-use Rattle.params.specs.Variants.{known}
-use Rattle.params.specs.Answers.{done, unknown_variant}
-use Rattle.quartile.specs.declared.Quartiles.{Quartiles}
+use Rattle.std.proofs.Common.{◌≡◌, ℕ, ◌+◌, ◌-◌, ◌/◌, ◌^◌, max, ◌≤◌, ◌<◌, cond, List, [], ◌∷◌, ◌++◌, leb, length, refl, ap, ◌∙◌, length-append, arith}
+use Rattle.std.specs.List.{fold, sum_by}
+use Rattle.std.proofs.lemmas.List.Recursion.{is_sum_by}
 use Rattle.quartile.specs.Counts.{count, non_zero, count_le, largest}
-use Rattle.quartile.specs.Quartile.{place, quartiles, answered}
+use Rattle.quartile.specs.Quartile.{place}
 use Rattle.quartile.proofs.Counts.{count_most, count_append, count_non_zero}
 use Rattle.quartile.proofs.Order.{place_le, place_gt, place_largest}
 
--- Counting: n of the first i numbers are at most v.
-pub record Counted (v : ℕ) (xs : List ℕ) (i n : ℕ) : Type 0 where
-  pub within : i ≤ length xs
-  pub few : n ≤ i
-  pub whole : n + count_le v (drop i xs) ≡ count_le v xs
-
--- none of none
-pub counted_none : (v : ℕ) (xs : List ℕ) → Counted v xs 0 0
-counted_none v xs = record { within = omega arith; few = omega arith; whole = omega arith }
-
--- what is left to count begins with the number at place i
-count_next : (v : ℕ) (xs : List ℕ) (i : ℕ) → i < length xs
-    → count_le v (drop i xs) ≡ cond (leb (get_or xs i 0) v) 1 0 + count_le v (drop (i + 1) xs)
+-- Counting a block: each number at most v adds 1.
+pub count_sum : (v : ℕ) (xs : List ℕ) → count_le v xs ≡ sum_by (λ x. cond (leb x v) 1 0) xs
 unfolding count count_le
-count_next v xs i h = rw (add-one, drop-cons xs i 0)
+count_sum v = is_sum_by (count (λ x. leb x v)) (λ x. cond (leb x v) 1 0) refl (λ _ _. refl)
 
--- a number more, at most v
-pub counted_in : (v : ℕ) (xs : List ℕ) (i n : ℕ) → Counted v xs i n → i < length xs → get_or xs i 0 ≤ v → Counted v xs (i + 1) (n + 1)
-counted_in v xs i n c h l =
-    let a = rw (le-leb (get_or xs i 0) v l) at (count_next v xs i h) in
-    record { within = omega arith; few = omega (arith, c.few); whole = omega (arith, c.whole, a) }
+-- Counting block by block: of the numbers before the rest, n are at most v.
+pub record Counted (v : ℕ) (xs rest : List ℕ) (n : ℕ) : Type 0 where
+  pub few : n + length rest ≤ length xs
+  pub whole : n + count_le v rest ≡ count_le v xs
 
--- a number more, above v
-pub counted_out : (v : ℕ) (xs : List ℕ) (i n : ℕ) → Counted v xs i n → i < length xs → v < get_or xs i 0 → Counted v xs (i + 1) n
-counted_out v xs i n c h l =
-    let a = rw (lt-leb (get_or xs i 0) v l) at (count_next v xs i h) in
-    record { within = omega arith; few = omega (arith, c.few); whole = omega (arith, c.whole, a) }
-
--- what is left to count is a block of s numbers and what is left after it
-count_cut : (v : ℕ) (xs : List ℕ) (i s : ℕ)
-    → count_le v (take s (drop i xs)) + count_le v (drop (i + s) xs) ≡ count_le v (drop i xs)
+-- a block more, of which m are at most v
+pub counted_block : (v : ℕ) (xs rest block left : List ℕ) (n m : ℕ) → Counted v xs rest n → rest ≡ block ++ left
+    → m ≡ count_le v block → Counted v xs left (n + m)
 unfolding count_le
-count_cut v xs i s = rw (← drop-drop s i xs, ← count_append (λ x. leb x v), take-append-drop)
+counted_block v xs rest block left n m c e q =
+    let f = count_most (λ x. leb x v) block in
+    let l = ap length e ∙ length-append block left in
+    let w = ap (count (λ x. leb x v)) e ∙ count_append (λ x. leb x v) block left in
+    record { few = omega (arith, c.few); whole = omega (arith, c.whole) }
 
--- a block of s numbers more, of which m are at most v
-pub counted_block : (v : ℕ) (xs : List ℕ) (i n b s m : ℕ) → Counted v xs i n → s ≡ min (length xs - i) b
-    → m ≡ count_le v (take (i + s - i) (drop i xs)) → Counted v xs (i + s) (n + m)
+-- no block more
+pub counted_all : (v : ℕ) (xs rest : List ℕ) (n : ℕ) → Counted v xs rest n → length rest ≡ 0 → n ≡ count_le v xs
 unfolding count_le
-counted_block v xs i n b s m c h q =
-    let e : i + s - i ≡ s = omega arith in
-    let p : m ≡ count_le v (take s (drop i xs)) = rw e at q in
-    let f = count_most (λ x. leb x v) (take s (drop i xs)) in
-    record {
-      within = omega (arith, c.within);
-      few = omega (arith, c.few, length-take s (drop i xs));
-      whole = omega (arith, c.whole, count_cut v xs i s);
-    }
+counted_all v xs rest n c e = omega (arith, c.whole, count_most (λ x. leb x v) rest)
 
--- all of all
-pub counted_all : (v : ℕ) (xs : List ℕ) (i n : ℕ) → Counted v xs i n → length xs ≤ i → n ≡ count_le v xs
-unfolding count count_le
-counted_all v xs i n c h =
-    let z : count_le v (drop i xs) ≡ 0 = rw (drop_of_length-le xs h) in
-    omega (arith, c.whole)
-
--- The largest: m is that of the first i numbers.
-pub record Largest (xs : List ℕ) (i m : ℕ) : Type 0 where
-  pub within : i ≤ length xs
-  pub whole : max m (largest (drop i xs)) ≡ largest xs
-
--- 0 of none
-pub largest_none : (xs : List ℕ) → Largest xs 0 0
-largest_none xs = record { within = omega arith; whole = omega arith }
-
--- what is left to see begins with the number at place i
-largest_next : (xs : List ℕ) (i : ℕ) → i < length xs → largest (drop i xs) ≡ max (get_or xs i 0) (largest (drop (i + 1) xs))
+-- The largest is what stays of all when each number in turn is compared with the larger one so far.
+fold_max : (m : ℕ) (xs : List ℕ) → fold max m xs ≡ max m (largest xs)
 unfolding largest
-largest_next xs i h = rw (add-one, drop-cons xs i 0)
+fold_max m [] = omega arith
+fold_max m (x ∷ xs) = omega (arith, fold_max (max m x) xs)
 
--- a number more, above those before it
-pub largest_up : (xs : List ℕ) (i m : ℕ) → Largest xs i m → i < length xs → m < get_or xs i 0 → Largest xs (i + 1) (get_or xs i 0)
-largest_up xs i m l h t = record { within = omega arith; whole = omega (arith, l.whole, largest_next xs i h) }
-
--- a number more, not above them
-pub largest_kept : (xs : List ℕ) (i m : ℕ) → Largest xs i m → i < length xs → get_or xs i 0 ≤ m → Largest xs (i + 1) m
-largest_kept xs i m l h t = record { within = omega arith; whole = omega (arith, l.whole, largest_next xs i h) }
-
--- that of all
-pub largest_all : (xs : List ℕ) (i m : ℕ) → Largest xs i m → length xs ≤ i → m ≡ largest xs
-unfolding largest
-largest_all xs i m l h =
-    let z : largest (drop i xs) ≡ 0 = rw (drop_of_length-le xs h) in
-    omega (arith, l.whole)
+pub fold_largest : (xs : List ℕ) → fold max 0 xs ≡ largest xs
+fold_largest xs = omega (arith, fold_max 0 xs)
 
 -- Bisection: the number at place k lies from low to high.
 pub record Bracket (xs : List ℕ) (k low high : ℕ) : Type 0 where
@@ -145,27 +84,5 @@ counted_few v xs n e = rw e (count_most (λ x. leb x v) xs)
 pub zeros_rest : (xs : List ℕ) (z : ℕ) → z ≡ count_le 0 xs → length xs - z ≡ non_zero xs
 zeros_rest xs z e = omega (arith, count_non_zero xs)
 
--- A part that ends at n, or where the numbers end, is the first n numbers.
-take_min : (xs : List ℕ) (n e : ℕ) → e ≡ min n (length xs) → take e xs ≡ take n xs
-take_min xs n e h = go (dec_le n (length xs))
-  where
-    go : Dec (n ≤ length xs) → take e xs ≡ take n xs
-    go (yes l) = let p : e ≡ n = omega arith in rw p
-    go (no l) = rw (take_all e xs (omega arith), take_all n xs (omega arith))
-
--- So its quartiles are those of the first n numbers.
-pub quartiles_first : (xs : List ℕ) (n e : ℕ) (q : Quartiles) → e ≡ min n (length xs)
-    → q ≡ quartiles (take e xs) → q ≡ quartiles (take n xs)
-quartiles_first xs n e q h p = rw (take_min xs n e h) at p
-
--- A variant that is none of the three is answered 6 and zeros.
-pub answered_unknown : (v : ℕ) (xs : List ℕ) (b : Bool) → b ≡ known v → not b ≡ true
-    → record { number = unknown_variant; quartiles = record { q1 = 0; q2 = 0; q3 = 0 } } ≡ answered v xs
-unfolding answered
-answered_unknown v xs b e t = let f : known v ≡ false = not-true (known v) (rw e at t) in rw f
-
--- One of the three is answered the quartiles of as many counters.
-pub answered_done : (v : ℕ) (xs : List ℕ) (b : Bool) (q : Quartiles) → b ≡ known v → not b ≡ false → q ≡ quartiles (take v xs)
-    → record { number = done; quartiles = q } ≡ answered v xs
-unfolding answered
-answered_done v xs b q e t h = let f : known v ≡ true = not-false (known v) (rw e at t) in rw (f, h)
+-- what the proof of `quartile::non_zero` cites
+pub ruleset zeros = (counted_few, zeros_rest)

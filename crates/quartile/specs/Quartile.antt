@@ -1,10 +1,10 @@
 -- The quartiles of the used counters (docs/RULES.md, section 4, step 3).
 -- Assumes nothing.
-use Rattle.std.specs.Prelude.{ℕ, ◌-◌, ◌*◌, ◌/◌, cond, List, [], ◌∷◌, leb, length, get_or, take}
+use Rattle.std.specs.Prelude.{ℕ, ◌-◌, ◌*◌, ◌/◌, cond, List, [], ◌∷◌, leb, length, get_or, take, Result, Ok, Err}
 use Rattle.params.specs.Variants.{known}
-use Rattle.params.specs.Answers.{done, unknown_variant}
+use Rattle.params.specs.declared.Refusal.{Refusal}
+use Rattle.params.specs.declared.Refusal.TheVariants.{UnknownVariant}
 use Rattle.quartile.specs.declared.Quartiles.{Quartiles}
-use Rattle.quartile.specs.declared.QuartilesAnswer.{QuartilesAnswer}
 
 -- x put before the first number that is not below it
 unfoldable pub insert : ℕ → List ℕ → List ℕ
@@ -29,9 +29,6 @@ quartiles xs =
       q3 = place xs (3 * length xs / 4 - 1);
     }
 
--- the answer for a variant N: the quartiles of the first N counters, or 6 and zeros where it is none of the three
-unfoldable pub answered : ℕ → List ℕ → QuartilesAnswer
-answered v counters =
-    cond (known v)
-    (record { number = done; quartiles = quartiles (take v counters) })
-    (record { number = unknown_variant; quartiles = record { q1 = 0; q2 = 0; q3 = 0 } })
+-- the answer for a variant N: the quartiles of the first N counters, or a refusal where it is none of the three
+unfoldable pub answered : ℕ → List ℕ → Result Quartiles Refusal
+answered v counters = cond (known v) (Ok (quartiles (take v counters))) (Err UnknownVariant)

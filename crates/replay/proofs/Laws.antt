@@ -1,12 +1,12 @@
 -- What is counted of the bytes so far, from byte to byte and from read to read.
 -- Assumes nothing.
-use Rattle.std.proofs.Common.{◌≡◌, ℕ, suc, ◌+◌, ◌%◌, ◌^◌, ◌<◌, ◌≤◌, Bool, true, false, cond, eqb, ltb, List, [], ◌∷◌, ◌++◌, length, get_or, take, set, ℤ, sym, refl, ap, ◌∙◌, append_assoc, append-nil, arith, length-append, length-set, take_all, take-suc, take-suc-set, ltb-false, ltb-true, le-ltb, lt-ltb, ne_eqb}
+use Rattle.std.proofs.Common.{◌≡◌, ℕ, suc, ◌+◌, ◌%◌, ◌^◌, ◌<◌, ◌≤◌, Bool, true, false, cond, eqb, ltb, List, [], ◌∷◌, ◌++◌, length, take, set, ℤ, pos, sym, refl, ap, ◌∙◌, append-nil, arith, length-append, length-set, take-suc-set, ltb-false, ltb-true, le-ltb, lt-ltb, ne_eqb}
+use Rattle.replay_verdict.specs.declared.Verdict.{Verdict}
+use Rattle.replay_verdict.specs.declared.Verdict.TheVariants.{Same, Another, Malformed}
 use Rattle.replay_verdict.specs.Line.{verdict_of, verdict_in}
-use Rattle.reading.specs.declared.Got.{Got}
-use Rattle.reading.specs.Reading.{Read, Arrived, none, more}
+use Rattle.reading.specs.Reading.{Arrived, none, more}
 use Rattle.replay.specs.declared.Tally.{Tally}
-use Rattle.replay.specs.declared.Turn.{Turn}
-use Rattle.replay.specs.Lines.{lines_from, rest_from, wrong_line, wrong_in, Kept, Counted, Goes, Follows, Turned, Listed}
+use Rattle.replay.specs.Lines.{lines_from, rest_from, wrong_by, wrong_line, wrong_in, Kept, Counted, Goes, Turned}
 
 -- the lines of joined bytes are those of the first, then those of the second, which go on where the first left off
 lines_cond : (t : Bool) (begun longer xs ys : List ℕ)
@@ -62,78 +62,87 @@ on_rest line b h = rw (ne_eqb b 10 h) refl
 
 -- the verdict on what a room keeps is that on the line
 long_at : (t : Bool) (room line : List ℕ) (size : ℕ) → ltb (length room) (length line) ≡ t → Kept room size line
-    → verdict_in room size ≡ cond t 2 (verdict_of line)
+    → verdict_in room size ≡ cond t Malformed (verdict_of line)
 unfolding verdict_in
 long_at true room line size e k = rw (lt-ltb (length room) size (k.long (ltb-true (length room) (length line) e))) refl
 long_at false room line size e k =
     let h : length line ≤ length room = ltb-false (length room) (length line) e in
     rw (le-ltb (length room) size (omega (arith, k.fits h, h)), k.is h) refl
 
-kept_verdict : (room line : List ℕ) (size : ℕ) → Kept room size line
-    → verdict_in room size ≡ cond (ltb (length room) (length line)) 2 (verdict_of line)
-kept_verdict room line size k = long_at (ltb (length room) (length line)) room line size refl k
-
-wrong_of : (room line : List ℕ) (size v : ℕ) → Kept room size line → v ≡ verdict_in room size
-    → wrong_line (length room) line ≡ cond (eqb v 0) 0 1
+wrong_of : (room line : List ℕ) (size : ℕ) (v : Verdict) → Kept room size line → v ≡ verdict_in room size
+    → wrong_line (length room) line ≡ wrong_by v
 unfolding wrong_line
-wrong_of room line size v k e = ap (λ (n : ℕ). cond (eqb n 0) 0 1) (sym (e ∙ kept_verdict room line size k))
+wrong_of room line size v k e = ap wrong_by (sym (e ∙ long_at (ltb (length room) (length line)) room line size refl k))
 
 -- a room keeps an empty line
 kept_none : (room : List ℕ) → Kept room 0 []
 kept_none room = record { fits = λ _. refl; is = λ _. refl; long = λ h. absurd (omega arith) }
 
--- the counts after a line that has ended, from those before
-ended : (before room : List ℕ) (t : Tally) (lines wrong w : ℕ) → Counted before room t → lines ≡ (t.lines + 1) % 2 ^ 64
-    → wrong ≡ (t.wrong + w) % 2 ^ 64 → wrong_line (length room) (rest_from [] before) ≡ w
-    → Counted (before ++ (10 ∷ [])) room (record { lines = lines; wrong = wrong; size = 0 })
+-- before the first byte
+pub counted_none : (room : List ℕ) → Counted [] (record { lines = 0; wrong = 0; line = room; size = 0 })
+unfolding lines_from rest_from wrong_in
+counted_none room = record { lines = omega arith; wrong = omega arith; rest = kept_none room }
+
+-- a verdict that is not the same is wrong
+other_wrong : (v : Verdict) → (v ≡ Same → ⊥) → wrong_by v ≡ 1
+other_wrong Same n = absurd (n refl)
+other_wrong Another n = refl
+other_wrong Malformed n = refl
+
+-- a line that has ended
+line_ended : (t : Tally) (v : Verdict) (wrong : ℕ) → v ≡ verdict_in t.line t.size
+    → ((n : ℕ) → t.wrong ≡ n % 2 ^ 64 → wrong ≡ (n + wrong_by v) % 2 ^ 64)
+    → Goes t (10 ∷ []) (record { lines = (t.lines + 1) % 2 ^ 64; wrong = wrong; line = t.line; size = 0 })
 unfolding wrong_in
-ended before room t lines wrong w p l x e =
-    let line : List ℕ = rest_from [] before in
-    let all : lines_from [] (before ++ (10 ∷ [])) ≡ lines_from [] before ++ (line ∷ [])
-    = lines_joined [] before (10 ∷ []) ∙ ap (λ (ls : List (List ℕ)). lines_from [] before ++ ls) (fed_lines line) in
-    let rest : rest_from [] (before ++ (10 ∷ [])) ≡ [] = rest_joined [] before (10 ∷ []) ∙ fed_rest line in
+line_ended t v wrong e w =
     record {
-      lines = rw all (omega (arith, p.lines, l, length-append (lines_from [] before) (line ∷ [])));
-      wrong = rw all (omega (arith, p.wrong, x, e, wrong_joined (length room) (lines_from [] before) (line ∷ [])));
-      rest = rw rest (kept_none room);
+      goes = λ (before : List ℕ) (p : Counted before t).
+          let room : List ℕ = t.line in
+          let line : List ℕ = rest_from [] before in
+          let all : lines_from [] (before ++ (10 ∷ [])) ≡ lines_from [] before ++ (line ∷ [])
+          = lines_joined [] before (10 ∷ []) ∙ ap (λ (ls : List (List ℕ)). lines_from [] before ++ ls) (fed_lines line) in
+          let rest : rest_from [] (before ++ (10 ∷ [])) ≡ [] = rest_joined [] before (10 ∷ []) ∙ fed_rest line in
+          record {
+            lines = rw all (omega (arith, p.lines, length-append (lines_from [] before) (line ∷ [])));
+            wrong = rw all (omega (
+              arith,
+              w (wrong_in (length room) (lines_from [] before)) p.wrong,
+              wrong_of room line t.size v p.rest e,
+              wrong_joined (length room) (lines_from [] before) (line ∷ []),
+            ));
+            rest = rw rest (kept_none room);
+          };
     }
 
 -- a line with the same answer
-pub line_same : (room : List ℕ) (t : Tally) (lines v : ℕ) → lines ≡ (t.lines + 1) % 2 ^ 64 → v ≡ verdict_in room t.size → v ≡ 0
-    → Goes room t (10 ∷ []) room (record { lines = lines; wrong = t.wrong; size = 0 })
-line_same room t lines v l e z =
-    record {
-      goes = λ before p. ended before room t lines t.wrong 0 p l (omega (arith, p.wrong))
-          (wrong_of room (rest_from [] before) t.size v p.rest e ∙ rw z refl);
-    }
+pub line_same : (t u : Tally) (v : Verdict) → v ≡ verdict_in t.line t.size → v ≡ Same
+    → u ≡ record { lines = (t.lines + 1) % 2 ^ 64; wrong = t.wrong; line = t.line; size = t.size }
+    → Goes t (10 ∷ []) (record { lines = u.lines; wrong = u.wrong; line = u.line; size = 0 })
+line_same t u v e s f = rw f (line_ended t v t.wrong e (λ n h. omega (arith, h, ap wrong_by s)))
 
 -- a line with another answer, or a malformed one
-pub line_wrong : (room : List ℕ) (t : Tally) (lines wrong v : ℕ) → lines ≡ (t.lines + 1) % 2 ^ 64 → v ≡ verdict_in room t.size
-    → (v ≡ 0 → ⊥) → wrong ≡ (t.wrong + 1) % 2 ^ 64 → Goes room t (10 ∷ []) room (record { lines = lines; wrong = wrong; size = 0 })
-line_wrong room t lines wrong v l e z w =
-    record {
-      goes = λ before p. ended before room t lines wrong 1 p l w
-          (wrong_of room (rest_from [] before) t.size v p.rest e ∙ rw (ne_eqb v 0 z) refl);
-    }
-
--- a line feed
-pub byte_feed : (room : List ℕ) (t r : Tally) (b : ℕ) → b ≡ 10 → Goes room t (10 ∷ []) room r → Goes room t (b ∷ []) room r
-byte_feed room t r b e g = rw e g
+pub line_wrong : (t u : Tally) (v : Verdict) → v ≡ verdict_in t.line t.size → (v ≡ Same → ⊥)
+    → u ≡ record { lines = (t.lines + 1) % 2 ^ 64; wrong = (t.wrong + 1) % 2 ^ 64; line = t.line; size = t.size }
+    → Goes t (10 ∷ []) (record { lines = u.lines; wrong = u.wrong; line = u.line; size = 0 })
+line_wrong t u v e s f = rw f (line_ended t v ((t.wrong + 1) % 2 ^ 64) e (λ n h. omega (arith, h, other_wrong v s)))
 
 -- the counts after another character are those before
-on : (before room next : List ℕ) (t : Tally) (b size : ℕ) → Counted before room t → (b ≡ 10 → ⊥) → length next ≡ length room
-    → Kept next size (rest_from [] before ++ (b ∷ []))
-    → Counted (before ++ (b ∷ [])) next (record { lines = t.lines; wrong = t.wrong; size = size })
-on before room next t b size p h e k =
-    let line : List ℕ = rest_from [] before in
-    let all : lines_from [] (before ++ (b ∷ [])) ≡ lines_from [] before
-    = lines_joined [] before (b ∷ []) ∙ ap (λ (ls : List (List ℕ)). lines_from [] before ++ ls) (on_lines line b h)
-    ∙ append-nil (lines_from [] before) in
-    let rest : rest_from [] (before ++ (b ∷ [])) ≡ line ++ (b ∷ []) = rest_joined [] before (b ∷ []) ∙ on_rest line b h in
+on : (t : Tally) (b size : ℕ) (next : List ℕ) → (b ≡ 10 → ⊥) → length next ≡ length t.line
+    → ((line : List ℕ) → Kept t.line t.size line → Kept next size (line ++ (b ∷ [])))
+    → Goes t (b ∷ []) (record { lines = t.lines; wrong = t.wrong; line = next; size = size })
+on t b size next h e k =
     record {
-      lines = rw all p.lines;
-      wrong = rw (all, e) p.wrong;
-      rest = rw rest k;
+      goes = λ (before : List ℕ) (p : Counted before t).
+          let line : List ℕ = rest_from [] before in
+          let all : lines_from [] (before ++ (b ∷ [])) ≡ lines_from [] before
+          = lines_joined [] before (b ∷ []) ∙ ap (λ (ls : List (List ℕ)). lines_from [] before ++ ls) (on_lines line b h)
+          ∙ append-nil (lines_from [] before) in
+          let rest : rest_from [] (before ++ (b ∷ [])) ≡ line ++ (b ∷ []) = rest_joined [] before (b ∷ []) ∙ on_rest line b h in
+          record {
+            lines = rw all p.lines;
+            wrong = rw (all, e) p.wrong;
+            rest = rw rest (k line p.rest);
+          };
     }
 
 -- a character that has no room
@@ -146,13 +155,9 @@ kept_long room line size b k h =
       long = λ _. omega arith;
     }
 
-pub byte_long : (room : List ℕ) (t : Tally) (b : ℕ) → (b ≡ 10 → ⊥) → length room ≤ t.size
-    → Goes room t (b ∷ []) room (record { lines = t.lines; wrong = t.wrong; size = length room + 1 })
-byte_long room t b h s =
-    record {
-      goes = λ before p. on before room room t b (length room + 1) p h refl
-          (kept_long room (rest_from [] before) t.size b p.rest s);
-    }
+pub byte_long : (t : Tally) (b size : ℕ) → (b ≡ 10 → ⊥) → length t.line ≤ t.size → size ≡ length t.line + 1
+    → Goes t (b ∷ []) (record { lines = t.lines; wrong = t.wrong; line = t.line; size = size })
+byte_long t b size h s e = on t b size t.line h refl (λ line k. rw e (kept_long t.line line t.size b k s))
 
 -- a character that has room
 kept_more : (t : Bool) (room line : List ℕ) (size b : ℕ) → ltb (length room) (length line) ≡ t → Kept room size line → size < length room
@@ -169,106 +174,34 @@ kept_more false room line size b e k h =
       long = λ l. absurd (omega (arith, n, r, l, h, k.fits f));
     }
 
-pub byte_more : (room next : List ℕ) (t : Tally) (b : ℕ) → (b ≡ 10 → ⊥) → t.size < length room → next ≡ set room t.size b
-    → Goes room t (b ∷ []) next (record { lines = t.lines; wrong = t.wrong; size = t.size + 1 })
-byte_more room next t b h s e =
-    rw e record {
-      goes = λ before p. on before room (set room t.size b) t b (t.size + 1) p h (length-set room t.size b)
-          (kept_more (ltb (length room) (length (rest_from [] before))) room (rest_from [] before) t.size b refl p.rest s);
-    }
+pub byte_more : (t : Tally) (b : ℕ) → (b ≡ 10 → ⊥) → t.size < length t.line
+    → Goes t (b ∷ []) (record { lines = t.lines; wrong = t.wrong; line = set t.line t.size b; size = t.size + 1 })
+byte_more t b h s =
+    on t b (t.size + 1) (set t.line t.size b) h (length-set t.line t.size b)
+    (λ line k. kept_more (ltb (length t.line) (length line)) t.line line t.size b refl k s)
 
--- no bytes
-pub goes_none : (block room : List ℕ) (t : Tally) → Goes room t (take 0 block) room t
-goes_none block room t = record { goes = λ before p. rw (append-nil before) p }
-
--- one byte more of a block
-pub goes_byte : (block room between next : List ℕ) (t u r : Tally) (i : ℕ) → Goes room t (take i block) between u → i < length block
-    → Goes between u (get_or block i 0 ∷ []) next r → Goes room t (take (i + 1) block) next r
-goes_byte block room between next t u r i a h b =
-    let s : i + 1 ≡ suc i = omega arith in
-    record {
-      goes = λ before p. rw (s, take-suc block i 0 h, ← (append_assoc before (take i block) (get_or block i 0 ∷ [])))
-          (b.goes (before ++ take i block) (a.goes before p));
-    }
-
--- the whole block
-pub goes_all : (block room next : List ℕ) (t r : Tally) (i : ℕ) → Goes room t (take i block) next r → length block ≤ i
-    → Goes room t block next r
-goes_all block room next t r i a h = rw (← (take_all i block h)) a
-
--- a read that met the end or failed; `seen` is the file descriptor as the machine reads it back
-pub turned_last : (fd seen : ℤ) (k : ℕ) (room : List ℕ) (t : Tally) (block : List ℕ) (got : Got) → seen ≡ fd → Read seen k block got
-    → (got.kind ≡ 0 → ⊥) → Turned fd k room t room (record { kind = got.kind; tally = t })
-turned_last fd seen k room t block got e p h =
-    rw (← e) record {
-      more = λ z. absurd (h z);
-      last = λ _. record { block = block; got = got; read = p; is = refl };
-      same = λ _. refl;
-      kept = λ _. refl;
-    }
-
--- a read whose bytes were all taken in
-pub turned_more : (fd seen : ℤ) (k : ℕ) (room next : List ℕ) (t r : Tally) (block : List ℕ) (got : Got) → seen ≡ fd → Read seen k block got
-    → got.kind ≡ 0 → Goes room t (take got.count block) next r → Turned fd k room t next (record { kind = got.kind; tally = r })
-turned_more fd seen k room next t r block got e p z g =
-    rw (← e) record {
-      more = λ _. record { block = block; got = got; read = p; bytes = z; goes = g };
-      last = λ no. absurd (no z);
-      same = λ no. absurd (no z);
-      kept = λ no. absurd (no z);
-    }
-
--- from read to read: the tally is that of the bytes of all reads before number k
-pub record Held (fd : ℤ) (room : List ℕ) (t : Tally) (k : ℕ) : Type 0 where
+-- from read to read: the tally is that of the bytes of all reads before number k, one at each of i turns
+pub record Held (fd : ℤ) (t : Tally) (k i : ℕ) : Type 0 where
   pub bytes : List ℕ
   pub arrived : Arrived fd k bytes
-  pub counted : Counted bytes room t
+  pub counted : Counted bytes t
+  pub turns : k ≡ i
 
 -- before the first read
-pub held_none : (fd : ℤ) (room : List ℕ) → Held fd room (record { lines = 0; wrong = 0; size = 0 }) 0
-unfolding lines_from rest_from wrong_in
-held_none fd room =
-    let counted : Counted [] room (record { lines = 0; wrong = 0; size = 0 })
-    = record { lines = omega arith; wrong = omega arith; rest = kept_none room } in
-    record { bytes = []; arrived = none; counted = counted }
+pub held_none : (fd : ℤ) (t : Tally) → Counted [] t → Held fd t 0 0
+held_none fd t c = record { bytes = []; arrived = none; counted = c; turns = refl }
 
 -- a count that has not reached 2^24 does not roll over
-one_more : (k l blocks : ℕ) → k < blocks → blocks ≤ 16_777_216 → l ≡ (k + 1) % 2 ^ 64 → l ≡ suc k
-one_more k l blocks h b e = omega arith
+one_more : (k l : ℕ) → k < 16_777_216 → l ≡ (k + 1) % 2 ^ 64 → l ≡ suc k
+one_more k l h e = omega arith
 
 -- after a read that gave bytes
-pub held_more : (fd : ℤ) (room next : List ℕ) (t : Tally) (r : Turn) (k l blocks : ℕ) → Held fd room t k → k < blocks → blocks ≤ 16_777_216
-    → r.kind ≡ 0 → Turned fd k room t next r → l ≡ (k + 1) % 2 ^ 64 → Held fd next r.tally l
-held_more fd room next t r k l blocks p h b z u o =
-    let f : Follows fd k room t next r.tally = u.more z in
-    rw (one_more k l blocks h b o) record {
-      bytes = p.bytes ++ take f.got.count f.block;
-      arrived = more k p.bytes f.block f.got p.arrived f.read f.bytes;
-      counted = f.goes.goes p.bytes p.counted;
-    }
-
--- after a read that met the end or failed
-pub held_last : (fd seen : ℤ) (room next : List ℕ) (t : Tally) (r : Turn) (k : ℕ) → seen ≡ fd → Held seen room t k → (r.kind ≡ 0 → ⊥)
-    → Turned seen k room t next r → Listed fd next r
-held_last fd seen room next t r k e p h u =
-    rw (← e) record {
-      reads = k;
-      bytes = p.bytes;
-      arrived = p.arrived;
-      counted = rw (u.kept h, u.same h) p.counted;
-      last = u.last;
-      enough = λ z. absurd (h z);
-    }
-
--- no more is read
-pub held_end : (fd seen : ℤ) (room : List ℕ) (t : Tally) (k blocks : ℕ) → seen ≡ fd → Held seen room t k → blocks ≤ k → 16_777_216 ≤ blocks
-    → Listed fd room (record { kind = 0; tally = t })
-held_end fd seen room t k blocks e p h b =
-    rw (← e) record {
-      reads = k;
-      bytes = p.bytes;
-      arrived = p.arrived;
-      counted = p.counted;
-      last = λ no. absurd (no refl);
-      enough = λ _. omega arith;
+pub held_more : (fd : ℤ) (t r : Tally) (k l i n : ℕ) → Held fd t k i → i < 16_777_216 → Turned fd k t r (pos n) → (n ≡ 0 → ⊥)
+    → l ≡ (k + 1) % 2 ^ 64 → Held fd r l (i + 1)
+held_more fd t r k l i n p h u some e =
+    rw (one_more k l (omega (arith, h, p.turns)) e) record {
+      bytes = p.bytes ++ take n u.block;
+      arrived = more k n p.bytes u.block p.arrived u.read (omega (arith, some));
+      counted = u.goes.goes p.bytes p.counted;
+      turns = omega (arith, p.turns);
     }

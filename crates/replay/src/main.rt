@@ -7,9 +7,10 @@
 
 ghost use Rattle.std.specs.Prelude.{◌≡◌, ◌+◌, ◌%◌, ◌^◌, [], ◌∷◌};
 ghost use Rattle.std.specs.Fd.{file_raw_fd};
-ghost use Rattle.replay.specs.Lines.{Goes, Turned, Listed};
+ghost use Rattle.reading.specs.Reading.{answered};
 
 use reading::Input;
+use replay_verdict::Verdict;
 use std::fs::File;
 use std::io;
 use std::io::{Stdout, Write};
@@ -20,153 +21,123 @@ const BLOCKS: u64 = 16_777_216;
 // As many lines are shown that differ or are malformed.
 const SHOWN: u64 = 10;
 
-// The lines so far, those of them that were not the same, and the characters of the line that is being read.
-#[derive(Clone, Copy)]
-struct Tally {
-    pub lines: u64,
-    pub wrong: u64,
-    pub size: usize,
-}
-
-// What one read, or all of them, came to, by the kinds of `reading`, and the tally.
-#[derive(Clone, Copy)]
-struct Turn {
-    pub kind: u32,
-    pub tally: Tally,
-}
-
 // Says what is wrong with a line, unless so many have been shown.
-fn report(mut output: Stdout, line: u64, verdict: u32, shown: u64) {
+fn report(mut output: Stdout, line: u64, verdict: Verdict, shown: u64) {
     if SHOWN <= shown {
         return;
     }
-    let _ = if verdict == 1 {
-        writeln!(output, "line {line} differs")
-    } else {
-        writeln!(output, "line {line} is malformed")
+    let wrong = match verdict {
+        Verdict::Same => return,
+        Verdict::Another => "differs",
+        Verdict::Malformed => "is malformed",
     };
+    let _ = writeln!(output, "line {line} {wrong}");
 }
 
-// Judges the line that has come to its end.
-fn take_line(output: Stdout, line: &[u8], t: Tally) -> Tally
-    ensures { Goes line.now t (10 ∷ []) line.now result }
-{
-    let lines = t.lines.wrapping_add(1);
-    let verdict = replay_verdict::judge(line, t.size);
-    if verdict == 0 {
-        return Tally {
-            lines: lines,
-            wrong: t.wrong,
+// The lines so far, those of them that were not the same, and the line that is being read: its characters, and how many they are. A
+// line that has no room has a size past the room's end, and so is malformed.
+#[derive(Clone, Copy)]
+struct Tally {
+    lines: u64,
+    wrong: u64,
+    line: [u8; 320],
+    size: usize,
+}
+
+impl Tally {
+    ghost use Rattle.replay.specs.Lines.{Counted, Goes, Turned, Listed};
+
+    // Before the first byte.
+    fn new() -> Tally
+        ensures { Counted [] result }
+    {
+        Tally {
+            lines: 0,
+            wrong: 0,
+            line: [0; 320],
             size: 0,
-        };
-    }
-    report(output, lines, verdict, t.wrong);
-    let wrong = t.wrong.wrapping_add(1);
-    Tally {
-        lines: lines,
-        wrong: wrong,
-        size: 0,
-    }
-}
-
-// Takes a character in. A line that has no room gets a size past the room's end, and so is malformed.
-fn take_byte(output: Stdout, b: u8, line: &mut [u8], t: Tally) -> Tally
-    ensures { Goes line.old t (b ∷ []) line.new result }
-{
-    let size = t.size;
-    if b == b'\n' {
-        return take_line(output, line, t);
-    }
-    let room = line.len();
-    if room <= size {
-        let long = room + 1;
-        return Tally {
-            lines: t.lines,
-            wrong: t.wrong,
-            size: long,
-        };
-    }
-    line[size] = b;
-    let next = size + 1;
-    Tally {
-        lines: t.lines,
-        wrong: t.wrong,
-        size: next,
-    }
-}
-
-// Takes the characters of a block in.
-fn take_block(output: Stdout, block: &[u8], line: &mut [u8], t: Tally) -> Tally
-    ensures { Goes line.old t block.now line.new result }
-{
-    let mut tally = t;
-    let mut i = 0;
-    while i < block.len() {
-        tally = take_byte(output, block[i], line, tally);
-        i += 1;
-    }
-    tally
-}
-
-// Reads a block, and takes it in. `reads` counts the reads.
-fn read_block(output: Stdout, list: &File, reads: &mut u64, line: &mut [u8], t: Tally) -> Turn
-    ensures turned { Turned (file_raw_fd list.now) reads.old line.old t line.new result }
-    ensures reads_after { reads.new ≡ (reads.old + 1) % 2 ^ 64 }
-{
-    let mut block = [0u8; 65_536];
-    let got = reading::read_block(Input::Opened(list), reads, &mut block);
-    let kind = got.kind;
-    if kind != reading::MORE {
-        return Turn {
-            kind: kind,
-            tally: t,
-        };
-    }
-    let n = got.count;
-    let next = take_block(output, &block[..n], line, t);
-    Turn {
-        kind: kind,
-        tally: next,
-    }
-}
-
-// Reads the list to its end.
-fn read_list(output: Stdout, list: &File, line: &mut [u8]) -> Turn
-    ensures { Listed (file_raw_fd list.now) line.new result }
-{
-    let mut tally = Tally {
-        lines: 0,
-        wrong: 0,
-        size: 0,
-    };
-    let mut reads = 0u64;
-    while reads < BLOCKS {
-        let t = read_block(output, list, &mut reads, line, tally);
-        let kind = t.kind;
-        if kind != reading::MORE {
-            return t;
         }
-        let next = t.tally;
-        tally = next;
     }
-    Turn {
-        kind: reading::MORE,
-        tally: tally,
-    }
-}
 
-// Says how a reading ended, where it is not at the end of a line and of the list, and what it counted.
-fn conclude(mut output: Stdout, t: Turn) -> io::Result<()> {
-    if t.kind != reading::END {
-        output.write_all(b"answers.txt cannot be read to its end\n")?;
+    // Judges the line that has come to its end.
+    fn take_line(&mut self, output: Stdout)
+        ensures { Goes self.old (10 ∷ []) self.new }
+    {
+        self.lines = self.lines.wrapping_add(1);
+        match replay_verdict::judge(&self.line, self.size) {
+            Verdict::Same => {}
+            verdict => {
+                report(output, self.lines, verdict, self.wrong);
+                self.wrong = self.wrong.wrapping_add(1);
+            }
+        }
+        self.size = 0;
     }
-    let tally = t.tally;
-    if tally.size != 0 {
-        output.write_all(b"the last line has no end\n")?;
+
+    // Takes a character in.
+    fn take_byte(&mut self, output: Stdout, byte: u8)
+        ensures { Goes self.old (byte ∷ []) self.new }
+    {
+        if byte == b'\n' {
+            self.take_line(output);
+        } else if self.size < self.line.len() {
+            self.line[self.size] = byte;
+            self.size += 1;
+        } else {
+            self.size = self.line.len() + 1;
+        }
     }
-    let lines = tally.lines;
-    let wrong = tally.wrong;
-    writeln!(output, "replayed {lines} answers, {wrong} differ")
+
+    // Takes the characters of a block in.
+    fn take_block(&mut self, output: Stdout, block: &[u8])
+        ensures { Goes self.old block.now self.new }
+    {
+        for &byte in block {
+            self.take_byte(output, byte);
+        }
+    }
+
+    // Reads a block, and takes it in. `reads` counts the reads.
+    fn read_block(&mut self, output: Stdout, list: &File, reads: &mut u64) -> io::Result<usize>
+        ensures turned { Turned (file_raw_fd list.now) reads.old self.old self.new (answered result) }
+        ensures reads_after { reads.new ≡ (reads.old + 1) % 2 ^ 64 }
+    {
+        let mut block = [0u8; 65_536];
+        let count = reading::read_block(Input::Opened(list), reads, &mut block)?;
+        if count > 0 {
+            self.take_block(output, &block[..count]);
+        }
+        Ok(count)
+    }
+
+    // Reads the list, and says whether it was read to its end.
+    fn read_list(&mut self, output: Stdout, list: &File) -> io::Result<bool>
+        requires { Counted [] self.old }
+        ensures { Listed (file_raw_fd list.now) self.new result }
+    {
+        let mut reads = 0;
+        for _ in 0..BLOCKS {
+            if self.read_block(output, list, &mut reads)? == 0 {
+                return Ok(true);
+            }
+        }
+        Ok(false)
+    }
+
+    // Says how a reading ended, where it is not at the end of a line and of the list, and what it counted.
+    fn conclude(&self, mut output: Stdout, ended: bool) -> io::Result<()> {
+        if !ended {
+            output.write_all(b"answers.txt cannot be read to its end\n")?;
+        }
+        if self.size != 0 {
+            output.write_all(b"the last line has no end\n")?;
+        }
+        writeln!(
+            output,
+            "replayed {} answers, {} differ",
+            self.lines, self.wrong
+        )
+    }
 }
 
 fn main(rt: HostRuntime) -> io::Result<()> {
@@ -174,7 +145,7 @@ fn main(rt: HostRuntime) -> io::Result<()> {
     let Ok(list) = File::open(&rt, "answers.txt") else {
         return output.write_all(b"answers.txt cannot be opened\n");
     };
-    let mut line = [0u8; 320];
-    let t = read_list(output, &list, &mut line);
-    conclude(output, t)
+    let mut tally = Tally::new();
+    let ended = tally.read_list(output, &list).unwrap_or(false);
+    tally.conclude(output, ended)
 }

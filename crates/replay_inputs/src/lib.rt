@@ -4,129 +4,117 @@
 // bytes, whatever the pieces: a number that is no size of a piece stands for the largest.
 #![tactic(auto)]
 
-ghost use Rattle.std.specs.Prelude.{◌≡◌, ◌++◌, ◌+◌, ◌%◌, ◌≤◌, ◌<◌, min, length, drop};
+ghost use Rattle.std.specs.Prelude.{◌≡◌, ◌+◌, ◌%◌, ◌≤◌, ◌<◌, length};
 ghost use Rattle.generate.specs.Answer.{updated};
-ghost use Rattle.replay_inputs.specs.Input.{drawn, drawn_times, byte_by, input_bytes};
+ghost use Rattle.replay_inputs.specs.Input.{drawn, drawn_times, byte_by, input_byte, input_bytes};
 
 use generate::State;
 
-// The most bytes of a piece.
-const MOST: usize = 65_536;
-
-// An input: its kind, its seed, 0 for a pattern, and its length.
-#[derive(Clone, Copy)]
+/// An input: its kind, its seed, 0 for a pattern, and its length.
+#[derive(Clone, Copy, Debug, PartialEq, Eq)]
 pub struct Input {
     pub kind: u32,
     pub seed: u32,
     pub length: u32,
 }
 
+// The most bytes of a piece.
+const MOST: usize = 65_536;
+
 // ---- a byte
 
 // x after a draw.
+#[tactic(auto, unfolding(crate::specs::Input::drawn))]
 fn draw(x: u32) -> u32
     ensures { result ≡ drawn x }
 {
-    ((x as u64 * 1_103_515_245 + 12_345) % 2_147_483_648) as u32
+    ((u64::from(x) * 1_103_515_245 + 12_345) % 2_147_483_648) as u32
 }
 
-// The place of a byte of kind 3 among those that a seed lets stand.
-fn place_of(d: u32, seed: u32) -> u32
-    ensures { (result ≡ d % (1 + seed % 64)) × (result < 64) }
-{
-    d % (1 + seed % 64)
-}
-
-// Byte i of an input, where x stands after its draw.
-fn byte_by(n: Input, digits: &[u8], i: usize, x: u32) -> u8
-    requires { i < 4_294_967_296 }
-    ensures { result ≡ byte_by n digits.now i x }
-{
-    if n.kind < 1 {
-        return replay_pattern::repeated_byte(digits, i);
+impl Input {
+    // Byte i, where x stands after its draw. A kind above 2 draws one of the bytes that the seed lets stand.
+    #[tactic(auto, unfolding(crate::specs::Input::byte_by))]
+    fn byte_by(self, digits: &[u8], i: usize, x: u32) -> u8
+        ensures { result ≡ byte_by self digits.now i x }
+    {
+        let drawn = x / 65_536;
+        match self.kind {
+            0 => replay_pattern::repeated_byte(digits, i),
+            1 => ((self.seed as usize).wrapping_add(i) % 256) as u8,
+            2 => (drawn % 256) as u8,
+            _ => (32 + drawn % (1 + self.seed % 64)) as u8,
+        }
     }
-    if n.kind < 2 {
-        return ((n.seed as u64 + i as u64) % 256) as u8;
-    }
-    let d = x / 65_536;
-    if n.kind < 3 {
-        return (d % 256) as u8;
-    }
-    let place = place_of(d, n.seed);
-    (32 + place) as u8
 }
 
 // ---- pieces
 
-// Stores m bytes of an input, from byte i on, and answers x after their draws.
-fn fill(block: &mut [u8], m: usize, n: Input, digits: &[u8], i: usize, x: u32) -> u32
-    requires { (m ≤ length block.old) × (i + m < 4_294_967_296) × (x ≡ drawn_times i n.seed) }
-    ensures { (result ≡ drawn_times (i + m) n.seed)
-        × (block.new ≡ input_bytes n digits.now i m ++ drop m block.old) }
-{
-    let mut y = x;
-    let mut k = 0;
-    while k < m {
-        y = draw(y);
-        block[k] = byte_by(n, digits, i + k, y);
-        k += 1;
-    }
-    y
-}
-
-// A state, and x.
+// How far an input is made, at most to its end: the next byte is byte `at`, and x stands after the draws of those before it.
 #[derive(Clone, Copy)]
-struct Fed {
-    pub state: State,
-    pub x: u32,
+struct Making {
+    input: Input,
+    at: usize,
+    x: u32,
+    ghost drawn: { x ≡ drawn_times at input.seed },
+    ghost within: { at ≤ input.length },
 }
 
-// Feeds m bytes of an input, from byte i on.
-fn feed_piece(s: State, m: usize, n: Input, digits: &[u8], i: usize, x: u32) -> Fed
-    requires { (m ≤ 65_536) × (i + m < 4_294_967_296) × (x ≡ drawn_times i n.seed) }
-    ensures { (result.state ≡ (updated s (input_bytes n digits.now i m)).state)
-        × (result.x ≡ drawn_times (i + m) n.seed) }
-{
-    let mut block = [0u8; MOST];
-    let y = fill(&mut block, m, n, digits, i, x);
-    let u = generate::update(s, &block[..m]);
-    let next = u.state;
-    Fed { state: next, x: y }
-}
-
-// Feeds an input in pieces of so many bytes, the last one shorter.
-fn feed_pieces(s: State, piece: usize, n: Input, digits: &[u8]) -> State
-    requires { (0 < piece) × (piece ≤ 65_536) }
-    ensures { result ≡ (updated s (input_bytes n digits.now 0 n.length)).state }
-{
-    let mut state = s;
-    let mut x = n.seed;
-    let mut i = 0;
-    while i < n.length as usize {
-        let m = params::smaller(piece, n.length as usize - i);
-        let fed = feed_piece(state, m, n, digits, i, x);
-        let next = fed.state;
-        state = next;
-        x = fed.x;
-        i += m;
+impl Making {
+    // The next byte.
+    fn next(&mut self, digits: &[u8]) -> u8
+        requires { self.old.at < self.old.input.length }
+        ensures byte { result ≡ input_byte self.old.input digits.now self.old.at }
+        ensures input { self.new.input ≡ self.old.input }
+        ensures at { self.new.at ≡ self.old.at + 1 }
+    {
+        let x = draw(self.x);
+        let byte = self.input.byte_by(digits, self.at, x);
+        *self = Making {
+            input: self.input,
+            at: self.at + 1,
+            x,
+        };
+        byte
     }
-    state
+
+    // Stores the next bytes, as many as the block has.
+    fn fill(&mut self, block: &mut [u8], digits: &[u8])
+        requires { self.old.at + length block.old ≤ self.old.input.length }
+        ensures bytes { block.new ≡ input_bytes self.old.input digits.now self.old.at (length block.old) }
+        ensures input { self.new.input ≡ self.old.input }
+        ensures at { self.new.at ≡ self.old.at + length block.old }
+    {
+        for byte in block.iter_mut() {
+            *byte = self.next(digits);
+        }
+    }
 }
 
 // The size of the pieces: a number from 1 to the most stands for itself.
 fn piece_of(piece: u32) -> usize
     ensures { (0 < result) × (result ≤ 65_536) }
 {
-    let size = piece as usize;
-    if size < 1 {
-        return MOST;
+    match piece as usize {
+        size @ 1..=MOST => size,
+        _ => MOST,
     }
-    params::smaller(size, MOST)
 }
 
-// The state after an input, fed in pieces of so many bytes.
-pub fn feed_input(s: State, piece: u32, n: Input, digits: &[u8]) -> State
-    ensures { result ≡ (updated s (input_bytes n digits.now 0 n.length)).state }
+/// Feeds a state with an input, in pieces of so many bytes. Where the state is refused it stays as it was.
+pub fn feed_input(s: &mut State, piece: u32, n: Input, digits: &[u8])
+    ensures { s.new ≡ (updated s.old (input_bytes n digits.now 0 n.length)).state }
 {
-    feed_pieces(s, piece_of(piece), n, digits)
+    let mut block = [0u8; MOST];
+    let piece = piece_of(piece);
+    let length = n.length as usize;
+    let mut making = Making {
+        input: n,
+        at: 0,
+        x: n.seed,
+    };
+    while making.at < length {
+        let part = &mut block[..piece.min(length - making.at)];
+        making.fill(part, digits);
+        let _ = s.update(part);
+    }
 }

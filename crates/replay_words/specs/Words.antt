@@ -1,10 +1,9 @@
 -- Words, texts and decimal numbers in a line of the stored list (host/README.md, The stored list). A space is 32, the digits 0 to 9
 -- are 48 to 57.
 -- Assumes nothing.
-use Rattle.std.specs.Prelude.{Bool, true, false, cond, not, ◌&&◌, List, [], ◌∷◌, ℕ, zero, suc, ◌+◌, ◌-◌, ◌*◌, leb, ltb, eqb, length, get_or, take, drop}
+use Rattle.std.specs.Prelude.{Bool, true, false, cond, not, ◌&&◌, List, [], ◌∷◌, ℕ, zero, suc, ◌+◌, ◌-◌, ◌*◌, leb, ltb, eqb, length, get_or, take, drop, Option, Some, None}
 use Rattle.std.specs.Borrow.{Bor}
 use Rattle.params.specs.Words.{every}
-use Rattle.replay_words.specs.declared.Number.{Number}
 
 -- how many characters stand before the first space
 abbrev pub word_size : List ℕ → ℕ
@@ -59,12 +58,8 @@ is_numeral s =
     (cond (ltb 10 (length s)) false
     (cond (ltb 1 (length s) && eqb (get_or s 0 0) 48) false (all_decimal s)))
 
--- no number
-abbrev pub no_number : Number
-no_number = record { good = false; value = 0 }
-
 -- the number that a text says, at most so great
-unfoldable pub number_of : ℕ → List ℕ → Number
+unfoldable pub number_of : ℕ → List ℕ → Option ℕ
 number_of most s =
-    cond (not (is_numeral s)) no_number
-    (cond (ltb most (decimal_after 0 s)) no_number (record { good = true; value = decimal_after 0 s }))
+    cond (not (is_numeral s)) None
+    (cond (ltb most (decimal_after 0 s)) None (Some (decimal_after 0 s)))

@@ -1,38 +1,13 @@
 -- The character of a digit, as the code makes it: past 9 it skips the gap between 9 and A.
 -- Assumes nothing.
-use mathlib.Core.Path.{◌≡◌, refl}
-use mathlib.Core.Bool.{Bool, true, false, cond}
-use Prim.Native.Nat.{ℕ, ◌+◌, ◌*◌, ◌/◌, ◌%◌, ◌≤◌, ◌<◌}
+use mathlib.Core.Path.{◌≡◌}
+use mathlib.Core.Bool.{Bool}
+use mathlib.Core.List.{[], ◌∷◌}
+use Prim.Native.Nat.{ℕ, ◌+◌, ◌*◌, ◌/◌, ◌%◌, ◌<◌}
 use native.Mathlib.Omega.{arith}
 use lib.Dec.{T, ltb, eqb, ltb→lt, eqb→eq}
-use borrow.Author.Tests.{lt-ltb, le-ltb}
 use Rattle.params.proofs.Every.{below}
 use Rattle.text.specs.Text.{digit_of}
-
--- up to 9 nothing is added for the gap before A
-pub past_low : (n : ℕ) → n < 10 → ◌≡◌ {A = ℕ} 0 (cond (ltb n 10) 0 7)
-past_low n h = rw (lt-ltb n 10 h)
-
--- from 10 on the gap is
-pub past_high : (n : ℕ) → 10 ≤ n → ◌≡◌ {A = ℕ} 7 (cond (ltb n 10) 0 7)
-past_high n h = rw (le-ltb n 10 h)
-
--- the gap is at most 7, so the sum fits a byte
-pub digit_fits : (n x : ℕ) → n < 16 → x ≡ cond (ltb n 10) 0 7 → 48 + n + x < 256
-digit_fits n x h e = go (ltb n 10) refl
-  where
-    go : (b : Bool) → ltb n 10 ≡ b → 48 + n + x < 256
-    go true p = let z : x ≡ 0 = rw p at e in omega arith
-    go false p = let z : x ≡ 7 = rw p at e in omega arith
-
--- the character of a number counts from that of 0, and the gap comes on top
-pub digit_made : (n x : ℕ) → x ≡ cond (ltb n 10) 0 7 → 48 + n + x ≡ digit_of n
-unfolding digit_of
-digit_made n x e = go (ltb n 10) refl
-  where
-    go : (b : Bool) → ltb n 10 ≡ b → 48 + n + x ≡ cond (ltb n 10) (48 + n) (55 + n)
-    go true p = let z : x ≡ 0 = rw p at e in rw p (omega arith)
-    go false p = let z : x ≡ 7 = rw p at e in rw p (omega arith)
 
 -- what the code makes of two halves
 abbrev pair_made : ℕ → ℕ → ℕ
@@ -52,3 +27,14 @@ pair_made_lem a b h k =
 pub digit_small : (n : ℕ) → n < 16 → digit_of n < 128
 unfolding digit_of
 digit_small n h = ltb→lt (digit_of n) 128 (below (λ (x : ℕ). ltb (digit_of x) 128) 16 tt n h)
+
+-- the two bytes of that number are the two characters
+pub two_characters : (a b p : ℕ) → a < 16 → b < 16 → p ≡ digit_of a + 256 * digit_of b
+    → p % 256 ∷ p / 256 % 256 ∷ [] ≡ digit_of a ∷ digit_of b ∷ []
+two_characters a b p h k q =
+    let x = digit_small a h in
+    let y = digit_small b k in
+    let e : p % 256 ≡ digit_of a = omega arith in
+    let f : p / 256 ≡ digit_of b = omega arith in
+    let g : digit_of b % 256 ≡ digit_of b = omega arith in
+    rw (e, f, g)

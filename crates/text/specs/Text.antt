@@ -1,10 +1,11 @@
 -- The text of a digest, and what writing it answers and leaves (docs/RULES.md, sections 5 and 6).
 -- Assumes nothing.
-use Rattle.std.specs.Prelude.{cond, not, List, [], ◌∷◌, ◌++◌, ◌≡◌, ℕ, ◌+◌, ◌*◌, ◌/◌, ◌%◌, ltb, length, take, drop}
+use Rattle.std.specs.Prelude.{cond, not, List, [], ◌∷◌, ◌++◌, ◌≡◌, ℕ, ◌+◌, ◌*◌, ◌/◌, ◌%◌, ltb, length, take, drop, Result, Ok, Err}
 use Rattle.params.specs.Variants.{known}
-use Rattle.params.specs.Answers.{done, unknown_variant, short_destination}
+use Rattle.params.specs.Answers.{answer_number}
+use Rattle.params.specs.declared.Refusal.{Refusal}
+use Rattle.params.specs.declared.Refusal.TheVariants.{UnknownVariant, ShortDestination}
 use Rattle.hash.specs.declared.Digest.{Digest}
-use Rattle.text.specs.declared.SizeAnswer.{SizeAnswer}
 use Rattle.body.specs.Body.{bytes_of}
 
 -- the character of a digit: 48 to 57 are 0 to 9, and 65 to 70 are A to F
@@ -37,22 +38,27 @@ abbrev pub text_size : ℕ → ℕ
 text_size v = 8 + 2 * bytes_of v
 
 -- what is answered to a question for it
-unfoldable pub size_of : ℕ → SizeAnswer
-size_of v = cond (not (known v)) (record { number = unknown_variant; size = 0 }) (record { number = done; size = text_size v })
+unfoldable pub size_of : ℕ → Result ℕ Refusal
+size_of v = cond (not (known v)) (Err UnknownVariant) (Ok (text_size v))
 
 -- what writing answers, and what the destination then holds
 pub record Wrote : Type 0 where
-  pub number : ℕ
+  pub answer : Result (Unit {0}) Refusal
   pub destination : List ℕ
 
 -- 6 and 7 leave the destination as it is. Else the text stands at its front, and later bytes stay
 unfoldable pub write_of : Digest → List ℕ → Wrote
 write_of d destination =
-    cond (not (known d.variant)) (record { number = unknown_variant; destination = destination })
-    (cond (ltb (length destination) (length (text_of d))) (record { number = short_destination; destination = destination })
-    (record { number = done; destination = text_of d ++ drop (length (text_of d)) destination }))
+    cond (not (known d.variant)) (record { answer = Err UnknownVariant; destination = destination })
+    (cond (ltb (length destination) (length (text_of d))) (record { answer = Err ShortDestination; destination = destination })
+    (record { answer = Ok tt; destination = text_of d ++ drop (length (text_of d)) destination }))
 
 -- a function's result and its destination at exit are these
-pub record Written (result : ℕ) (destination : List ℕ) (w : Wrote) : Type 0 where
-  pub answered : result ≡ w.number
+pub record Written (result : Result (Unit {0}) Refusal) (destination : List ℕ) (w : Wrote) : Type 0 where
+  pub answered : result ≡ w.answer
+  pub left : destination ≡ w.destination
+
+-- what C is told: a function's number and its destination at exit are these
+pub record Numbered (number : ℕ) (destination : List ℕ) (w : Wrote) : Type 0 where
+  pub answered : number ≡ answer_number w.answer
   pub left : destination ≡ w.destination

@@ -5,21 +5,15 @@
 // byte has its high digit first. The text has the used bytes of the body alone: 32, 72 or 136 characters.
 #![tactic(auto)]
 
-ghost use Rattle.std.specs.Prelude.{◌≡◌, true, cond, ◌∷◌, [], ◌+◌, ◌*◌, ◌/◌, ◌%◌, ◌≤◌, ◌<◌, ltb, length, take};
+ghost use Rattle.std.specs.Prelude.{◌≡◌, ◌∷◌, [], ◌+◌, ◌*◌, ◌/◌, ◌%◌, ◌≤◌, ◌<◌, length, take};
 ghost use Rattle.std.proofs.lemmas.List.Edits.{sets};
-ghost use Rattle.params.specs.Variants.{known};
+ghost use Rattle.params.specs.Variants.{buckets};
 ghost use Rattle.body.specs.Body.{bytes_of};
-ghost use Rattle.text.specs.Text.{size_of, digit_of, head_text, body_text, Written, write_of};
+ghost use Rattle.text.specs.Text.{size_of, digit_of, head_text, body_text, text_size, Written, write_of};
 ghost use Rattle.text.specs.Apart.{rows_of, in_turn};
 
 use hash::Digest;
-
-// The number of the answer, and the size of a text, 0 beside a refusal.
-#[derive(Clone, Copy)]
-pub struct SizeAnswer {
-    pub number: u32,
-    pub size: usize,
-}
+use params::{Refusal, Variant};
 
 // The digits of a row of bytes: the high ones, and the low ones; 0 after them.
 #[derive(Clone, Copy)]
@@ -28,168 +22,145 @@ struct Rows {
     low: [u8; 64],
 }
 
-// The size of a variant's text; 6 for another variant.
-pub fn text_size(variant: u32) -> SizeAnswer
+// The number of characters of a variant's text.
+fn size(variant: Variant) -> usize
+    ensures { result ≡ text_size (buckets variant) }
+{
+    8 + 2 * body::bytes_of(variant.buckets() as usize)
+}
+
+/// The number of characters of a variant's text: 32, 72 or 136.
+#[tactic(auto, using(crate::proofs::Writing::sizes))]
+pub fn text_size(variant: u32) -> Result<usize, Refusal>
     ensures { result ≡ size_of variant }
 {
-    if !params::is_known(variant) {
-        return SizeAnswer {
-            number: params::UNKNOWN_VARIANT,
-            size: 0,
-        };
+    let variant = Variant::try_from(variant)?;
+    Ok(size(variant))
+}
+
+// A digit of a byte.
+#[derive(Clone, Copy)]
+struct Digit {
+    value: u8,
+    ghost small: { value < 16 },
+}
+
+impl Digit {
+    // The low digit.
+    fn low(byte: u8) -> Self
+        ensures { result.value ≡ byte % 16 }
+    {
+        Digit { value: byte % 16 }
     }
-    let m = body::bytes_of(variant as usize);
-    SizeAnswer {
-        number: params::DONE,
-        size: 8 + 2 * m,
+
+    // The high digit.
+    fn high(byte: u8) -> Self
+        ensures { result.value ≡ byte / 16 }
+    {
+        Digit { value: byte / 16 }
+    }
+
+    // The character of a digit.
+    #[tactic(auto, unfolding(crate::specs::Text::digit_of))]
+    fn character(self) -> u8
+        ensures { result ≡ digit_of self.value }
+    {
+        let n = self.value;
+        if n < 10 { b'0' + n } else { b'A' - 10 + n }
     }
 }
 
-// How many characters stand between 9 and A, for a digit past 9.
-fn past_nine(n: u8) -> u8
-    ensures { result ≡ cond (ltb n 10) 0 7 }
+// The characters of two digits, made as one number, the first in its low byte. A half past 9 carries once 6 is added, and then skips
+// the characters before A. 1,542 is 6 in each of the two bytes, 12,336 is 48 in each, and 7 times `past` is 7 in each that skips.
+fn pair_of(first: Digit, second: Digit) -> [u8; 2]
+    ensures { result ≡ digit_of first.value ∷ digit_of second.value ∷ [] }
 {
-    if n < 10 { 0 } else { 7 }
-}
-
-// The character of a digit.
-fn digit_of(n: u8) -> u8
-    requires { n < 16 }
-    ensures { result ≡ digit_of n }
-{
-    48 + n + past_nine(n)
-}
-
-// Two digits as one number, the first in its low byte. A half past 9 carries once 6 is added, and then skips the characters before A.
-// 1,542 is 6 in each of the two bytes, 12,336 is 48 in each, and 7 times `past` is 7 in each that skips.
-fn pair_of(first: u8, second: u8) -> u32
-    requires { (first < 16) × (second < 16) }
-    ensures { result ≡ digit_of first + 256 * digit_of second }
-{
-    let halves = first as u32 + 256 * second as u32;
+    let halves = u32::from(first.value) + 256 * u32::from(second.value);
     let more = halves + 1_542;
     let past = more / 16 % 2 + 256 * (more / 4_096 % 2);
-    halves + 12_336 + 7 * past
-}
-
-// Stores two digits at a place.
-fn put(destination: &mut [u8], at: usize, first: u8, second: u8)
-    requires { (first < 16) × (second < 16) × (at + 2 ≤ length destination.old) }
-    ensures { destination.new ≡ sets destination.old at (digit_of first ∷ digit_of second ∷ []) }
-{
-    let pair = pair_of(first, second);
-    destination[at] = (pair % 256) as u8;
-    destination[at + 1] = (pair / 256 % 256) as u8;
-}
-
-// A byte's high digit.
-fn high_digit(b: u8) -> u8
-    ensures { result ≡ digit_of (b / 16) }
-{
-    digit_of(b / 16)
-}
-
-// A byte's low digit.
-fn low_digit(b: u8) -> u8
-    ensures { result ≡ digit_of (b % 16) }
-{
-    digit_of(b % 16)
-}
-
-// Stores `T1` at the front.
-fn put_t1(destination: &mut [u8])
-    requires { 2 ≤ length destination.old }
-    ensures { destination.new ≡ sets destination.old 0 (84 ∷ 49 ∷ []) }
-{
-    destination[0] = 84;
-    destination[1] = 49;
+    let pair = halves + 12_336 + 7 * past;
+    [(pair % 256) as u8, (pair / 256 % 256) as u8]
 }
 
 // Stores `T1` and the three fields before the body.
-fn put_head(destination: &mut [u8], checksum: u8, length_code: u8, ratios: u8)
+fn put_head(destination: &mut [u8], digest: &Digest)
     requires { 8 ≤ length destination.old }
-    ensures { destination.new ≡ sets destination.old 0 (head_text checksum length_code ratios) }
+    ensures { destination.new ≡ sets destination.old 0 (head_text digest.now.checksum digest.now.length_code digest.now.ratios) }
 {
-    put_t1(destination);
-    put(destination, 2, checksum % 16, checksum / 16);
-    put(destination, 4, length_code % 16, length_code / 16);
-    put(destination, 6, ratios % 16, ratios / 16);
+    let Digest {
+        checksum,
+        length_code,
+        ratios,
+        ..
+    } = *digest;
+    let [c0, c1] = pair_of(Digit::low(checksum), Digit::high(checksum));
+    let [l0, l1] = pair_of(Digit::low(length_code), Digit::high(length_code));
+    let [r0, r1] = pair_of(Digit::low(ratios), Digit::high(ratios));
+    destination[0] = b'T';
+    destination[1] = b'1';
+    destination[2] = c0;
+    destination[3] = c1;
+    destination[4] = l0;
+    destination[5] = l1;
+    destination[6] = r0;
+    destination[7] = r1;
 }
 
-// The high and the low digits of the first m bytes of a body, apart, so that sixteen are made at once.
-fn rows_of(body: &[u8; 64], m: usize) -> Rows
-    requires { (m ≤ 64) × (length body.now ≡ 64) }
-    ensures { result ≡ rows_of (take m body.now) }
+// The high and the low digits of a row of bytes, apart, so that sixteen are made at once.
+fn rows_of(bytes: &[u8]) -> Rows
+    requires { length bytes.now ≤ 64 }
+    ensures { result ≡ rows_of bytes.now }
 {
-    let mut high = [0u8; 64];
-    let mut low = [0u8; 64];
-    let mut i = 0;
-    while i < m {
-        high[i] = high_digit(body[i]);
-        low[i] = low_digit(body[i]);
-        i += 1;
+    let mut high = [0; 64];
+    let mut low = [0; 64];
+    for (i, byte) in bytes.iter().enumerate() {
+        high[i] = Digit::high(*byte).character();
+        low[i] = Digit::low(*byte).character();
     }
     Rows { high, low }
 }
 
-// Stores m digits of two rows in turn, from place 8 on.
-fn put_pairs(destination: &mut [u8], high: &[u8; 64], low: &[u8; 64], m: usize)
-    requires { (m ≤ 64) × (length high.now ≡ 64) × (length low.now ≡ 64) × (8 + 2 * m ≤ length destination.old) }
-    ensures { destination.new
-        ≡ sets destination.old 8 (in_turn (take m high.now) (take m low.now)) }
+// Stores the digits of two rows in turn, from place 8 on.
+fn put_pairs(destination: &mut [u8], high: &[u8], low: &[u8])
+    requires { (length low.now ≡ length high.now) × (8 + 2 * length high.now ≤ length destination.old) }
+    ensures { destination.new ≡ sets destination.old 8 (in_turn high.now low.now) }
 {
-    let mut i = 0;
-    while i < m {
-        destination[8 + 2 * i] = high[i];
+    for (i, digit) in high.iter().enumerate() {
+        destination[8 + 2 * i] = *digit;
         destination[9 + 2 * i] = low[i];
-        i += 1;
     }
 }
 
-// Stores the digits of the first m bytes of a body, from place 8 on.
-fn put_bytes(destination: &mut [u8], body: &[u8; 64], m: usize)
-    requires { (m ≤ 64) × (length body.now ≡ 64) × (8 + 2 * m ≤ length destination.old) }
-    ensures { destination.new ≡ sets destination.old 8 (body_text (take m body.now)) }
+// Stores the digits of a row of bytes, from place 8 on.
+fn put_bytes(destination: &mut [u8], bytes: &[u8])
+    requires { (length bytes.now ≤ 64) × (8 + 2 * length bytes.now ≤ length destination.old) }
+    ensures { destination.new ≡ sets destination.old 8 (body_text bytes.now) }
 {
-    let rows = rows_of(body, m);
-    let high = rows.high;
-    let low = rows.low;
-    put_pairs(destination, &high, &low, m);
+    let Rows { high, low } = rows_of(bytes);
+    put_pairs(destination, &high[..bytes.len()], &low[..bytes.len()]);
 }
 
-// Stores the digits of the m bytes that a variant uses. Each number is spelled out, so that the compiler can lay the turns side by side.
-fn put_body(destination: &mut [u8], body: &[u8; 64], variant: u32, m: usize)
-    requires { (known variant ≡ true) × (m ≡ bytes_of variant) × (length body.now ≡ 64) × (8 + 2 * m ≤ length destination.old) }
-    ensures { destination.new ≡ sets destination.old 8 (body_text (take m body.now)) }
+// Stores the digits of the bytes that a variant uses. Each number is spelled out, so that the compiler can lay the turns side by side.
+fn put_body(destination: &mut [u8], body: &[u8; 64], variant: Variant)
+    requires { text_size (buckets variant) ≤ length destination.old }
+    ensures { destination.new ≡ sets destination.old 8 (body_text (take (bytes_of (buckets variant)) body.now)) }
 {
-    if variant == params::SHORT {
-        put_bytes(destination, body, 12);
-        return;
+    match variant {
+        Variant::Short => put_bytes(destination, &body[..12]),
+        Variant::Normal => put_bytes(destination, &body[..32]),
+        Variant::Long => put_bytes(destination, body),
     }
-    if variant == params::NORMAL {
-        put_bytes(destination, body, 32);
-        return;
-    }
-    put_bytes(destination, body, 64);
 }
 
-// Writes the text at the front of the destination; 6, then 7, with nothing written.
-pub fn write_text(digest: Digest, destination: &mut [u8]) -> u32
-    ensures { Written result destination.new (write_of digest destination.old) }
+/// Writes the text at the front of the destination. A refusal writes nothing.
+pub fn write_text(digest: &Digest, destination: &mut [u8]) -> Result<(), Refusal>
+    ensures { Written result destination.new (write_of digest.now destination.old) }
 {
-    if !params::is_known(digest.variant) {
-        return params::UNKNOWN_VARIANT;
+    let variant = Variant::try_from(digest.variant)?;
+    if destination.len() < size(variant) {
+        return Err(Refusal::ShortDestination);
     }
-    let m = body::bytes_of(digest.variant as usize);
-    if destination.len() < 8 + 2 * m {
-        return params::SHORT_DESTINATION;
-    }
-    put_head(
-        destination,
-        digest.checksum,
-        digest.length_code,
-        digest.ratios,
-    );
-    put_body(destination, &digest.body, digest.variant, m);
-    params::DONE
+    put_head(destination, digest);
+    put_body(destination, &digest.body, variant);
+    Ok(())
 }

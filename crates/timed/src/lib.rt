@@ -3,12 +3,14 @@
 #![tactic(auto)]
 
 ghost use Rattle.std.specs.Prelude.{◌≡◌};
-ghost use Rattle.text.specs.Text.{Written, write_of};
+ghost use Rattle.std.specs.Result.{result_unwrap_or};
+ghost use Rattle.hash.specs.Digest.{zero_digest};
+ghost use Rattle.text.specs.Text.{Numbered, write_of};
 ghost use Rattle.parse.specs.Reading.{read_of};
 
 use hash::Digest;
 
-// Writes the text of the digest that has these fields.
+/// Writes the text of the digest that has these fields.
 #[unsafe(no_mangle)]
 pub extern "C" fn saltcurtain_timed_write(
     variant: u32,
@@ -18,7 +20,7 @@ pub extern "C" fn saltcurtain_timed_write(
     body: &[u8; 64],
     destination: &mut [u8],
 ) -> u32
-    ensures { Written result destination.new
+    ensures { Numbered result destination.new
         (write_of
         (record {
           body = body.entry.now;
@@ -29,23 +31,20 @@ pub extern "C" fn saltcurtain_timed_write(
         })
         destination.old) }
 {
-    text::write_text(
-        Digest {
-            body: *body,
-            variant,
-            checksum,
-            length_code,
-            ratios,
-        },
-        destination,
-    )
+    let digest = Digest {
+        body: *body,
+        variant,
+        checksum,
+        length_code,
+        ratios,
+    };
+    params::answer_number(text::write_text(&digest, destination))
 }
 
-// Reads a text to its digest, which is all zero beside a refusal.
+/// Reads a text to its digest, which is all zero beside a refusal.
 #[unsafe(no_mangle)]
 pub extern "C" fn saltcurtain_timed_read(variant: u32, text: &[u8]) -> Digest
-    ensures { result ≡ (read_of variant text.now).digest }
+    ensures { result ≡ result_unwrap_or (read_of variant text.now) zero_digest }
 {
-    let read = parse::read_text(variant, text);
-    read.digest
+    parse::read_text(variant, text).unwrap_or(Digest::zero())
 }

@@ -5,4 +5,4 @@ use borrow.Author.Rules.{rules}
 use Rattle.compare.proofs.eight.Goals as goal
 
 pub returns : goal.returns
-returns c = (search eight_is, search rules)
+returns c = (search (eight_is, c.fits-x, c.fits-y), search rules)

@@ -1,10 +1,8 @@
 -- `digest::one` meets its contract.
 -- Assumes nothing.
-use Rattle.digest.proofs.Laws.{turned_last, turned_more}
+use Rattle.std.proofs.Common.{rules}
+use Rattle.digest.proofs.Laws.{turned_failed}
 use Rattle.digest.proofs.one.Goals as goal
 
-pub returns-then-kind-ne-MORE-clause-turned : goal.returns-then-kind-ne-MORE-clause-turned
-returns-then-kind-ne-MORE-clause-turned c = search (turned_last, c.if-kind-ne-MORE.true)
-
-pub returns-clause-turned : goal.returns-clause-turned
-returns-clause-turned c = search turned_more
+pub returns-in_err-count-clause-turned : goal.returns-in_err-count-clause-turned
+returns-in_err-count-clause-turned c = search (turned_failed, rules)

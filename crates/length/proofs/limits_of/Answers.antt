@@ -1,13 +1,14 @@
--- `length::limits_of` meets its contract, variant by variant.
+-- `length::limits_of` meets its contract: the limits of each variant are those of its number.
 -- Assumes nothing.
-use Rattle.length.proofs.Bounds.{limits_unknown, limits_short, limits_other}
+use Rattle.std.proofs.Common.{rules}
+use Rattle.params.specs.Variants.{known}
+use Rattle.length.specs.Limits.{minimum, maximum, limits_of}
 use Rattle.length.proofs.limits_of.Goals as goal
 
-pub returns-then-not-is_known : goal.returns-then-not-is_known
-returns-then-not-is_known c = search limits_unknown
+pub returns-in-Short : goal.returns-in-Short
+unfolding known minimum maximum limits_of
+returns-in-Short c = search rules
 
-pub returns-then-variant-eq-SHORT : goal.returns-then-variant-eq-SHORT
-returns-then-variant-eq-SHORT c = search limits_short
-
-pub returns : goal.returns
-returns c = search (limits_other, c.if-variant-eq-SHORT.false)
+pub returns-in-Normal : goal.returns-in-Normal
+unfolding known minimum maximum limits_of
+returns-in-Normal c = search rules

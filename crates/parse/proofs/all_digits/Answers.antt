@@ -1,13 +1,11 @@
 -- `parse::all_digits` meets its contract. The loop tests one character after the other.
 -- Assumes nothing.
-use Rattle.parse.proofs.Reading.{tested_none, tested_more, tested_all}
+use Rattle.parse.proofs.Reading.{tested_more, tested_all}
+use borrow.Author.Rules.{rules}
 use Rattle.parse.proofs.all_digits.Goals as goal
 
-pub loop-i-init : goal.loop-i-init
-loop-i-init c = search tested_none
-
-pub loop-i-preserved : goal.loop-i-preserved
-loop-i-preserved c = search tested_more
+pub loop-c-preserved : goal.loop-c-preserved
+loop-c-preserved c = search (tested_more, rules)
 
 pub returns : goal.returns
-returns c = search tested_all
+returns c = search (tested_all, rules)

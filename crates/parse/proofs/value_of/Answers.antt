@@ -1,4 +1,4 @@
--- `parse::value_of` meets its contract: each case is that of the definition.
+-- `parse::value_of` meets its contract. Each case is that of the definition.
 -- Assumes nothing.
 use Rattle.parse.proofs.Digits.{digit_least, value_small, value_low, value_high}
 use borrow.Author.Rules.{rules}

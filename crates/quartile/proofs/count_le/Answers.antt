@@ -1,13 +1,13 @@
 -- `quartile::count_le` meets its contract: the blocks that are counted and what is still to be counted make the whole.
 -- Assumes nothing.
-use Rattle.quartile.proofs.Laws.{counted_none, counted_block, counted_all}
+use Rattle.std.proofs.Common.{◌∙◌}
+use Rattle.quartile.proofs.Laws.{counted_block, counted_all}
 use Rattle.quartile.proofs.count_le.Goals as goal
 
-pub loop-i-init : goal.loop-i-init
-loop-i-init c = search counted_none
-
-pub loop-i-preserved : goal.loop-i-preserved
-loop-i-preserved c = search counted_block
+pub loop-block-preserved : goal.loop-block-preserved
+loop-block-preserved c =
+    let steps = c.in-Some.ensures.steps in
+    (steps.0 ∙ c.loop-block.invariant.0, counted_block _ _ _ _ _ _ _ c.loop-block.invariant.1 steps.1.0 c.count_block.ensures)
 
 pub returns : goal.returns
-returns c = search counted_all
+returns c = counted_all _ _ _ _ c.loop-block.invariant.1 c.in-None.ensures.steps.1.0

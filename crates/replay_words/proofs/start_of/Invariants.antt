@@ -3,8 +3,5 @@
 use Rattle.replay_words.proofs.Words.{Walked}
 use Rattle.replay_words.proofs.start_of.Given as goal
 
-abbrev pub invariant-loop-left : goal.invariant-loop-left
-invariant-loop-left l = Walked l.line l.count l.at l.left
-
-abbrev pub decreases-loop-left : goal.decreases-loop-left
-decreases-loop-left l = l.left
+abbrev pub invariant-loop : goal.invariant-loop
+invariant-loop l = Walked l.line l.counter l.at

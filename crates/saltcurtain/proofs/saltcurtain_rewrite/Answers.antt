@@ -1,16 +1,19 @@
 -- `saltcurtain::saltcurtain_rewrite` meets its contract: 6, then 7, then 8 and 9.
 -- Assumes nothing.
-use Rattle.saltcurtain.proofs.Laws.{rewritten_variant, rewritten_room, rewritten_refused, rewritten_done}
+use borrow.Author.Rules.{rules}
+use Rattle.saltcurtain.proofs.Laws.{rewritten_room, rewritten_read, rewritten_done}
 use Rattle.saltcurtain.proofs.saltcurtain_rewrite.Goals as goal
 
-pub returns-then-text_size-ne-DONE : goal.returns-then-text_size-ne-DONE
-returns-then-text_size-ne-DONE c = search (rewritten_variant, c.if-text_size-ne-DONE.true)
+pub returns-then-branch : goal.returns-then-branch
+returns-then-branch c = rewritten_room _ _ _ _ c.in_ok-text_size.ensures c.if-branch.true
 
-pub returns-then-destination-text_size : goal.returns-then-destination-text_size
-returns-then-destination-text_size c = search rewritten_room
-
-pub returns-then-read-ne-DONE : goal.returns-then-read-ne-DONE
-returns-then-read-ne-DONE c = search (rewritten_refused, c.if-read-ne-DONE.true)
+pub returns-in_err-digest : goal.returns-in_err-digest
+returns-in_err-digest c =
+    search (
+      rewritten_read c.args.variant c.args.text.now c.args.destination.now c.in_ok-text_size.field-0 c.in_ok-text_size.ensures
+          c.if-branch.false,
+      rules,
+    )
 
 pub returns : goal.returns
-returns c = search rewritten_done
+returns c = rewritten_done _ _ _ _ c.in_ok-text_size.ensures c.if-branch.false _ _ _ c.in_ok-digest.ensures c.write_text.ensures

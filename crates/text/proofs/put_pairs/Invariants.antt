@@ -1,11 +1,7 @@
 -- `text::put_pairs` meets its contract. The loop stores one pair after the other.
 -- Assumes nothing.
-use Prim.Native.Nat.{◌-◌}
 use Rattle.text.proofs.Apart.{Puts}
 use Rattle.text.proofs.put_pairs.Given as goal
 
 abbrev pub invariant-loop-i : goal.invariant-loop-i
-invariant-loop-i l = Puts l.initial.destination l.high l.low l.m l.i l.destination
-
-abbrev pub decreases-loop-i : goal.decreases-loop-i
-decreases-loop-i l = l.m - l.i
+invariant-loop-i l = Puts l.initial.destination l.high l.low l.i l.destination
