@@ -6,6 +6,7 @@ use mathlib.Core.List.{List, [], ◌∷◌}
 use Prim.Native.Nat.{ℕ, zero, suc, ◌+◌, ◌-◌, ◌*◌, ◌/◌, ◌%◌, ◌≤◌, ◌<◌}
 use native.Mathlib.Nat.{not-suc-le-zero, le_of_suc-le-suc}
 use native.Mathlib.Omega.{arith}
+use Rattle.std.specs.Int.{w16, from_le_bytes}
 use lib.Dec.{T, leb, ltb, eqb, leb→le, ltb→lt, eqb→eq}
 use lib.ListN.{length, get_or, replicate}
 use borrow.Author.Tests.{leb-true, le-leb, lt-leb}
@@ -80,6 +81,11 @@ byte_small l h p q = omega (arith, value_small l p, value_small h q)
 pub byte_made : (l h x y : ℕ) → x ≡ value_of l → y ≡ value_of h → x + 16 * y ≡ byte_from l h
 unfolding byte_from
 byte_made l h x y p q = rw (p, q)
+
+-- two characters, read as one number
+pub both_is : (xs : List ℕ) → ((i : ℕ) → get_or xs i 0 < 256) → (n : ℕ) → n ≡ from_le_bytes w16 xs
+    → (n % 256 ≡ get_or xs 0 0) × (n / 256 ≡ get_or xs 1 0)
+both_is xs h n e = (omega (arith, h 0, h 1), omega (arith, h 0, h 1))
 
 -- its low digit is written as the first of them
 pub low_back : (l h : ℕ) → is_digit l ≡ true → is_digit h ≡ true → digit_of (byte_from l h % 16) ≡ l

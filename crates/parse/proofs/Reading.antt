@@ -1,29 +1,29 @@
 -- The laws that the reader's functions cite: the loops that test the digits, the loops that make the body, and each answer.
 -- Assumes nothing.
-use mathlib.Core.Path.{◌≡◌, refl, sym, ◌∙◌, ap, subst}
+use mathlib.Core.Path.{◌≡◌, refl, sym, ◌∙◌, ap, ap₂}
 use mathlib.Core.Bool.{Bool, true, false, ◌&&◌, and_assoc, and-true, true≢false}
 use mathlib.Core.List.{List, [], ◌∷◌, ◌++◌}
-use Prim.Native.Nat.{ℕ, zero, suc, ◌+◌, ◌-◌, ◌*◌, ◌≤◌, ◌<◌, min}
+use Prim.Native.Nat.{ℕ, zero, suc, ◌+◌, ◌-◌, ◌*◌, ◌/◌, ◌≤◌, ◌<◌}
 use native.Mathlib.Numerals.{add-one}
 use native.Mathlib.Omega.{arith}
-use lib.ListN.{length, get_or, set, take, drop, replicate, length-drop, length-append, length-replicate, drop_of_length-le, take-append-drop}
-use lib.Seq.{sets, length-sets, sets-eq, take-suc, length-take-le, take_all, take-add, take-take, take-append-le}
-use lib.Seq.{take-nil, drop-nil, drop-cons, drop-drop, drop-append-add, take_at, drop_at}
-use lib.Dec.{ltb}
-use borrow.Author.Tests.{ltb-true, ltb-false, eq-eqb, ne_eqb}
+use lib.ListN.{length, get_or, set, take, drop, replicate, length-drop, length-append, drop_of_length-le, take-append-drop}
+use lib.Seq.{take-suc, length-take-le, take_all, take-add, take-take}
+use lib.Seq.{drop-cons, drop-drop, take_at, drop_at}
+use borrow.Author.Tests.{eq-eqb, ne_eqb}
 use Rattle.std.specs.Prelude.{Ok, Err}
 use Rattle.hash.specs.declared.Digest.{Digest}
 use Rattle.params.specs.declared.Refusal.TheVariants.{UnknownVariant, WrongSize, WrongCharacter}
 use Rattle.params.specs.declared.Variant.{Variant}
-use Rattle.params.specs.declared.Variant.TheVariants.{Short, Normal, Long}
 use Rattle.params.specs.Variants.{known, buckets}
 use Rattle.params.proofs.Variants.{known_buckets}
 use Rattle.text.specs.Text.{text_size}
-use Rattle.body.specs.Body.{bytes_of}
 use Rattle.parse.specs.Reading.{is_digit, all_digits, byte_at, byte_from, bytes_from, body_from}
 use Rattle.parse.specs.Reading.{digest_from, digits_of, begins_t1, read_of}
 use Rattle.params.proofs.Tests.{and_both}
-use Rattle.text.proofs.Writing.{sets_append}
+use Rattle.std.specs.Simd.{first_chunks}
+use Rattle.std.proofs.lemmas.List.{get_or-drop, get_or-take, length-set, append_assoc}
+use Rattle.parse.proofs.Digits.{digits_at}
+use Rattle.std.proofs.Math.Seq.{set-append_seam}
 
 -- what the test's loop keeps: with what it found so far, the rest decides
 abbrev pub Tested : List ℕ → ℕ → Bool → Type 0
@@ -56,24 +56,6 @@ digits_take t n e = (and_both (all_digits (take n t)) (all_digits (drop n t)) (s
 -- so are those from it on
 digits_drop : (t : List ℕ) (n : ℕ) → all_digits t ≡ true → all_digits (drop n t) ≡ true
 digits_drop t n e = (and_both (all_digits (take n t)) (all_digits (drop n t)) (sym (digits_split t n) ∙ e)).1
-
--- and those between two
-pub digits_part : (t : List ℕ) (n k : ℕ) → all_digits t ≡ true → all_digits (take k (drop n t)) ≡ true
-digits_part t n k e = digits_take (drop n t) k (digits_drop t n e)
-
--- the last block begins where it ends with the row, and each before it where the one before that ends
-block_cases : (r i last : ℕ) (P : ℕ → Type 0) → r ≡ min i last → (i < last → P i) → (last ≤ i → P last) → P r
-block_cases r i last P e f g = go (ltb i last) refl
-  where
-    go : (b : Bool) → ltb i last ≡ b → P r
-    go true p =
-        let h : i < last = ltb-true i last p in
-        let m : r ≡ i = omega arith in
-        subst P (sym m) (f h)
-    go false p =
-        let h : last ≤ i = ltb-false i last p in
-        let m : r ≡ last = omega arith in
-        subst P (sym m) (g h)
 
 -- what the loop over blocks of characters keeps: r is what is left of them, and those before it are digits alone
 pub record Front (t r : List ℕ) : Type 0 where
@@ -139,70 +121,35 @@ bytes_at (a ∷ b ∷ cs) (suc i) h =
     let f : 2 * suc i + 1 ≡ suc (suc (2 * i + 1)) = omega arith in
     rw (f, e) (bytes_at cs i (omega arith))
 
--- the bytes of the digits before a place
-bytes_take : (cs : List ℕ) (n : ℕ) → bytes_from (take (2 * n) cs) ≡ take n (bytes_from cs)
-bytes_take cs zero = refl
-bytes_take [] (suc n) = rw (take-nil (2 * suc n))
-bytes_take (a ∷ []) (suc n) =
-    let e : 2 * suc n ≡ suc (suc (2 * n)) = omega arith in
-    rw e
-bytes_take (a ∷ b ∷ cs) (suc n) =
-    let e : 2 * suc n ≡ suc (suc (2 * n)) = omega arith in
-    rw e (ap (λ (l : List ℕ). byte_from b a ∷ l) (bytes_take cs n))
+-- what stands in a pair of characters, cut out of the whole
+pair_at : (c i j : ℕ) (xs : List ℕ) → i < c → j < 2 → get_or (get_or (first_chunks 2 c xs) i []) j 0 ≡ get_or xs (2 * i + j) 0
+pair_at zero i j xs h k = absurd (omega arith)
+pair_at (suc c) zero j xs h k =
+    let e : j ≡ 2 * 0 + j = omega arith in
+    get_or-take 2 xs j 0 k ∙ ap (λ (n : ℕ). get_or xs n 0) e
+pair_at (suc c) (suc i) j xs h k =
+    let e : 2 + (2 * i + j) ≡ 2 * suc i + j = omega arith in
+    pair_at c i j (drop 2 xs) (omega arith) k ∙ get_or-drop 2 xs (2 * i + j) 0 ∙ ap (λ (n : ℕ). get_or xs n 0) e
 
--- and of those from it on
-bytes_drop : (cs : List ℕ) (n : ℕ) → bytes_from (drop (2 * n) cs) ≡ drop n (bytes_from cs)
-bytes_drop cs zero = refl
-bytes_drop [] (suc n) = rw (drop-nil (2 * suc n))
-bytes_drop (a ∷ []) (suc n) =
-    let e : 2 * suc n ≡ suc (suc (2 * n)) = omega arith in
-    rw e
-bytes_drop (a ∷ b ∷ cs) (suc n) =
-    let e : 2 * suc n ≡ suc (suc (2 * n)) = omega arith in
-    rw e (bytes_drop cs n)
+-- the pairs of the characters after the head
+module _ (t : List ℕ) (m : ℕ) (ps : List (List ℕ)) (long : length t ≡ 6 + 2 * m)
+    (front : ps ≡ first_chunks 2 (length (take (length t - 6) (drop 6 t)) / 2) (take (length t - 6) (drop 6 t)))
+  where
+    -- what stands in one
+    pair_of : (i j : ℕ) → i < m → j < 2 → get_or (get_or ps i []) j 0 ≡ get_or t (6 + (2 * i + j)) 0
+    pair_of i j h k =
+        let rest : take (length t - 6) (drop 6 t) ≡ drop 6 t = take_all (length t - 6) (drop 6 t) (simp length-drop (omega arith)) in
+        let half : length (drop 6 t) / 2 ≡ m = simp length-drop (omega arith) in
+        let all : ps ≡ first_chunks 2 m (drop 6 t) = rw (rest, half) at front in
+        rw all (pair_at m i j (drop 6 t) h k ∙ get_or-drop 6 t (2 * i + j) 0)
 
--- what the loop over eight bytes keeps: the first j of them are stored
-pub record Taken (body₀ t : List ℕ) (at j : ℕ) (body : List ℕ) : Type 0 where
-  pub long : length body ≡ length body₀
-  pub holds : body ≡ sets body₀ at (take j (bytes_from t))
+    -- it is a digit where all are
+    pub pair_digit : (i j : ℕ) → i < m → j < 2 → all_digits t ≡ true → is_digit (get_or (get_or ps i []) j 0) ≡ true
+    pair_digit i j h k d = rw (pair_of i j h k) (digits_at t (6 + (2 * i + j)) d (omega arith))
 
--- at the start nothing is
-pub taken_none : (body t : List ℕ) (at : ℕ) → Taken body t at 0 body
-taken_none body t at = record { long = refl; holds = refl }
-
--- a turn stores the next byte
-pub taken_more : (body₀ t body : List ℕ) (at j b : ℕ) → Taken body₀ t at j body → j < 8 → length t ≡ 16
-    → b ≡ byte_at t (2 * j + 1) (2 * j) → Taken body₀ t at (j + 1) (set body (at + j) b)
-taken_more body₀ t body at j b p h k e =
-    let n : length (bytes_from t) ≡ 8 = length_bytes t 8 k in
-    let front = take j (bytes_from t) in
-    let f : length front ≡ j = length-take-le j (bytes_from t) (omega arith) in
-    let w : set body (at + j) b ≡ sets body₀ at (take (j + 1) (bytes_from t)) =
-    rw (p.holds, add-one j, take-suc (bytes_from t) j 0 (omega arith), bytes_at t j (omega arith), ← e, sets_append front, f) in
-    record { long = rw (w, length-sets); holds = w }
-
--- at the end all eight are
-pub taken_all : (body₀ t body : List ℕ) (at j : ℕ) → Taken body₀ t at j body → 8 ≤ j → length t ≡ 16
-    → body ≡ sets body₀ at (bytes_from t)
-taken_all body₀ t body at j p h k =
-    let n : length (bytes_from t) ≡ 8 = length_bytes t 8 k in
-    p.holds ∙ rw (take_all j (bytes_from t) (omega arith))
-
--- a part of sixteen characters has sixteen
-pub part_16 : (t : List ℕ) (at : ℕ) → at + 16 ≤ length t → length (take 16 (drop at t)) ≡ 16
-part_16 t at h = length-take-le 16 (drop at t) (simp length-drop (omega arith))
-
--- zeros from a place on are fewer zeros
-drop_zeros : (n k : ℕ) → drop {A = ℕ} k (replicate n 0) ≡ replicate (n - k) 0
-drop_zeros n zero =
-    let e : n - 0 ≡ n = omega arith in
-    rw e
-drop_zeros zero (suc k) =
-    let e : 0 - suc k ≡ 0 = omega arith in
-    rw e
-drop_zeros (suc n) (suc k) =
-    let e : suc n - suc k ≡ n - k = omega arith in
-    rw e (drop_zeros n k)
+    -- the byte of a pair
+    pub pair_byte : (i b : ℕ) → i < m → b ≡ byte_at (get_or ps i []) 1 0 → b ≡ byte_at t (6 + (2 * i + 1)) (6 + (2 * i + 0))
+    pair_byte i b h e = e ∙ ap₂ byte_from (pair_of i 1 h (omega arith)) (pair_of i 0 h (omega arith))
 
 -- what the body's loop keeps: the first i bytes are there, and 0 after them
 pub record Bodied (t : List ℕ) (i : ℕ) (body : List ℕ) : Type 0 where
@@ -218,61 +165,27 @@ module _ (t : List ℕ) (m : ℕ) (long : length t ≡ 6 + 2 * m) where
   length_part : length (bytes_from (drop 6 t)) ≡ m
   length_part = length_bytes (drop 6 t) m (simp length-drop (omega arith))
 
-  -- eight of them come of sixteen digits
-  part_eight : (j : ℕ) → bytes_from (take 16 (drop (6 + 2 * j) t)) ≡ take 8 (drop j (bytes_from (drop 6 t)))
-  part_eight j = rw (← drop-drop (2 * j) 6 t) (bytes_take (drop (2 * j) (drop 6 t)) 8 ∙ rw (bytes_drop (drop 6 t) j))
-
-  -- eight stored where the first i bytes end, or before that, are the first bytes up to the end of those eight
-  eight_stored : (i j : ℕ) → i ≤ m → j ≤ i → i ≤ j + 8 → j + 8 ≤ m → m ≤ 64
-      → sets (take i (bytes_from (drop 6 t)) ++ replicate (64 - i) 0) j (take 8 (drop j (bytes_from (drop 6 t))))
-      ≡ take (j + 8) (bytes_from (drop 6 t)) ++ replicate (64 - (j + 8)) 0
-  eight_stored i j w h k u v =
-      let bytes = bytes_from (drop 6 t) in
-      let n = length_part in
-      let front = take i bytes in
-      let zeros : List ℕ = replicate (64 - i) 0 in
-      let eight = take 8 (drop j bytes) in
-      let a : length front ≡ i = length-take-le i bytes (omega arith) in
-      let b : length eight ≡ 8 = length-take-le 8 (drop j bytes) (simp length-drop (omega arith)) in
-      let c : length (front ++ zeros) ≡ 64 = simp (length-append, length-replicate) (omega arith) in
-      let d : take j (front ++ zeros) ≡ take j bytes = take-append-le j front zeros (omega arith) ∙ take-take j i bytes h in
-      let g : length front + (j + 8 - i) ≡ j + 8 = omega arith in
-      let o : 64 - i - (j + 8 - i) ≡ 64 - (j + 8) = omega arith in
-      let r : drop (j + 8) (front ++ zeros) ≡ replicate (64 - (j + 8)) 0 =
-      ap (λ (k : ℕ). drop k (front ++ zeros)) (sym g)
-      ∙ drop-append-add front zeros (j + 8 - i)
-      ∙ drop_zeros (64 - i) (j + 8 - i)
-      ∙ ap (λ (k : ℕ). replicate k 0) o in
-      sets-eq eight (front ++ zeros) j (omega arith) ∙ rw (b, d, r, take-add j 8 bytes)
-
-  -- a turn stores the next eight, or the last eight
-  pub bodied_more : (body l cs : List ℕ) (n at : ℕ) → Bodied t (8 * n) body → 8 * n < m → 8 ≤ m → m ≤ 64
-      → at ≡ min (8 * n) (m - 8) → cs ≡ take 16 (drop (6 + 2 * at) t) → l ≡ sets body at (bytes_from cs) → Bodied t (8 * (n + 1)) l
-  bodied_more body l cs n at p h k v e b q =
-      let i = 8 * n in
-      let next : 8 * (n + 1) ≡ 8 * n + 8 = omega arith in
+  -- a turn stores the next byte
+  pub bodied_more : (body : List ℕ) (i b : ℕ) → Bodied t i body → i < m → m ≤ 64 → b ≡ byte_at t (6 + (2 * i + 1)) (6 + (2 * i + 0))
+      → Bodied t (i + 1) (set body i b)
+  bodied_more body i b p h v e =
       let bytes = bytes_from (drop 6 t) in
       let all = length_part in
-      let last = m - 8 in
-      let a : length (take i bytes) ≡ i = length-take-le i bytes (omega arith) in
-      let least : at ≤ last = omega arith in
-      let late : i ≤ at + 8 = omega arith in
-      let stored : l ≡ take (at + 8) bytes ++ replicate (64 - (at + 8)) 0 =
-      q
-      ∙ rw (p.holds, a, b, part_eight at)
-      (eight_stored i at (omega arith) (omega arith) late (omega arith) v) in
-      rw next record {
-        long = rw (q, length-sets) p.long;
-        holds =
-            block_cases at i last
-            (λ (x : ℕ). l ≡ take (x + 8) bytes ++ replicate (64 - (x + 8)) 0
-            → l ≡ take (i + 8) bytes ++ replicate (64 - length (take (i + 8) bytes)) 0) e
-            (λ (z : i < last). λ (d : l ≡ take (i + 8) bytes ++ replicate (64 - (i + 8)) 0).
-            rw (length-take-le (i + 8) bytes (omega arith)) d)
-            (λ (z : last ≤ i). λ (d : l ≡ take (last + 8) bytes ++ replicate (64 - (last + 8)) 0).
-            let g : length bytes ≡ last + 8 = omega arith in
-            rw (take_all (i + 8) bytes (omega arith), g) (rw (take_all (last + 8) bytes (omega arith)) at d))
-            stored;
+      let front = take i bytes in
+      let k = 64 - (i + 1) in
+      let f : length front ≡ i = length-take-le i bytes (omega arith) in
+      let room : 64 - length front ≡ suc k = omega arith in
+      let low : get_or (drop 6 t) (2 * i + 1) 0 ≡ get_or t (6 + (2 * i + 1)) 0 = get_or-drop 6 t (2 * i + 1) 0 in
+      let high : get_or (drop 6 t) (2 * i) 0 ≡ get_or t (6 + (2 * i + 0)) 0 = get_or-drop 6 t (2 * i) 0 ∙ ap (λ (j : ℕ). get_or t j 0) (omega arith) in
+      let at : get_or bytes i 0 ≡ b = bytes_at (drop 6 t) i (simp length-drop (omega arith)) ∙ rw (low, high) (sym e) in
+      let next : take (i + 1) bytes ≡ front ++ (b ∷ []) = rw (add-one i, take-suc bytes i 0 (omega arith), at) in
+      let long : length (take (i + 1) bytes) ≡ i + 1 = length-take-le (i + 1) bytes (omega arith) in
+      let before : body ≡ front ++ 0 ∷ replicate k 0 = p.holds ∙ rw room in
+      let stored : set body i b ≡ front ++ b ∷ replicate k 0 =
+      rw before (ap (λ (j : ℕ). set (front ++ 0 ∷ replicate k 0) j b) (sym f) ∙ set-append_seam front 0 (replicate k 0) b) in
+      record {
+        long = rw length-set p.long;
+        holds = stored ∙ rw (long, next) (sym (append_assoc front (b ∷ []) (replicate k 0)));
       }
 
   -- at the end it is the body
@@ -290,12 +203,6 @@ digits_9 v t a = rw a
 pub digits_0 : (v : ℕ) (t : List ℕ) → all_digits t ≡ true → digits_of v t ≡ Ok (digest_from v t)
 unfolding digits_of
 digits_0 v t a = rw a
-
--- a known variant has eight bytes and more
-pub least_eight : (v : Variant) → 8 ≤ bytes_of (buckets v)
-least_eight Short = omega arith
-least_eight Normal = omega arith
-least_eight Long = omega arith
 
 module _ (v : ℕ) (s : List ℕ) where
   -- the answer 6

@@ -4,11 +4,10 @@
 // `is_digit` alone judges a character. Only of characters that were tested (`HexDigits`) is a digest made, which cannot fail.
 #![tactic(auto)]
 
-ghost use Rattle.std.specs.Prelude.{◌≡◌, true, false, ◌+◌, ◌*◌, ◌≤◌, ◌<◌, length, take, drop, MatchOption};
-ghost use Rattle.std.proofs.lemmas.List.Edits.{sets};
+ghost use Rattle.std.specs.Prelude.{◌≡◌, true, false, ◌+◌, ◌*◌, ◌≤◌, ◌<◌, length, get_or, MatchOption};
 ghost use Rattle.params.specs.Variants.{buckets};
 ghost use Rattle.body.specs.Body.{bytes_of};
-ghost use Rattle.parse.specs.Reading.{is_digit, value_of, all_digits, byte_at, bytes_from, body_from, digest_from, read_of};
+ghost use Rattle.parse.specs.Reading.{is_digit, value_of, all_digits, byte_at, body_from, digest_from, read_of};
 
 use hash::Digest;
 use params::{Refusal, Variant};
@@ -29,6 +28,16 @@ fn value_of(c: u8) -> u8
     ensures { (result ≡ value_of c) × (result < 16) }
 {
     if c <= b'9' { c - b'0' } else { c - (b'A' - 10) }
+}
+
+// The byte of two digits, the high one first. Both are read as one number, so that the compiler can lay eight pairs side by side.
+fn byte_of(pair: &[u8; 2]) -> u8
+    requires high { is_digit (get_or pair.now 0 0) ≡ true }
+    requires low { is_digit (get_or pair.now 1 0) ≡ true }
+    ensures { result ≡ byte_at pair.now 1 0 }
+{
+    let both = u16::from_le_bytes(*pair);
+    value_of((both / 256) as u8) + 16 * value_of((both % 256) as u8)
 }
 
 /// Whether there are digits alone.
@@ -69,17 +78,6 @@ impl<'a> HexDigits<'a> {
         }
     }
 
-    // The sixteen from a place on.
-    #[tactic(auto, using(crate::proofs::Reading::digits_part))]
-    fn block(self, at: usize) -> Self
-        requires { at + 16 ≤ length self.chars.now }
-        ensures { result.chars.now ≡ take 16 (drop at self.entry.chars.now) }
-    {
-        HexDigits {
-            chars: &self.chars[at..at + 16],
-        }
-    }
-
     // The byte whose low digit stands at one place, and its high digit at another.
     fn byte_at(self, low: usize, high: usize) -> u8
         requires { (low < length self.chars.now) × (high < length self.chars.now) }
@@ -88,29 +86,30 @@ impl<'a> HexDigits<'a> {
         value_of(self.chars[low]) + 16 * value_of(self.chars[high])
     }
 
-    // Stores the bytes of sixteen digits at a place of a body.
-    fn store(self, body: &mut [u8; 64], at: usize)
-        requires { (length self.chars.now ≡ 16) × (length body.old ≡ 64) × (at + 8 ≤ 64) }
-        ensures { body.new ≡ sets body.old at (bytes_from self.entry.chars.now) }
-    {
-        for j in 0..8 {
-            body[at + j] = self.byte_at(2 * j + 1, 2 * j);
-        }
-    }
-
-    // The body: m bytes from place 6 on, eight at a time, and 0 after them. The last eight may begin among those that are there.
-    fn body(self, m: usize) -> [u8; 64]
-        requires least { 8 ≤ m }
+    // The body: m bytes from place 6 on, and 0 after them.
+    fn bytes(self, m: usize) -> [u8; 64]
         requires most { m ≤ 64 }
         requires long { length self.chars.now ≡ 6 + 2 * m }
         ensures { result ≡ body_from self.entry.chars.now }
     {
+        let (pairs, _) = self.chars[6..].as_chunks::<2>();
         let mut body = [0; 64];
-        for i in 0..m.div_ceil(8) {
-            let at = (8 * i).min(m - 8);
-            self.block(6 + 2 * at).store(&mut body, at);
+        for i in 0..m {
+            body[i] = byte_of(&pairs[i]);
         }
         body
+    }
+
+    // The body of a variant. Each number of bytes is spelled out, so that the compiler can lay the turns side by side.
+    fn body(self, variant: Variant) -> [u8; 64]
+        requires { length self.chars.now ≡ 6 + 2 * bytes_of (buckets variant) }
+        ensures { result ≡ body_from self.entry.chars.now }
+    {
+        match variant {
+            Variant::Short => self.bytes(12),
+            Variant::Normal => self.bytes(32),
+            Variant::Long => self.bytes(64),
+        }
     }
 
     // The digest of the digits after `T1`, two characters for each byte.
@@ -120,7 +119,7 @@ impl<'a> HexDigits<'a> {
         ensures { result ≡ digest_from (buckets variant) self.entry.chars.now }
     {
         Digest {
-            body: self.body(self.chars.len() / 2 - 3),
+            body: self.body(variant),
             variant: variant.buckets(),
             checksum: self.byte_at(0, 1),
             length_code: self.byte_at(2, 3),
