@@ -7,13 +7,11 @@ use Prim.Native.Nat.{ℕ, zero, suc, ◌+◌, ◌-◌, ◌≤◌, ◌<◌, min}
 use native.Mathlib.Nat.{add-zero}
 use native.Mathlib.Omega.{arith}
 use native.Mathlib.Decide.{dec_lt}
-use lib.ListN.{length, take, drop, length-take, drop_of_length-le}
-use Rattle.std.proofs.lemmas.List.{drop-drop}
-use Rattle.std.proofs.Common.{append_assoc}
-use lib.Seq.{sets, sets-eq, take-nil}
-use borrow.Rule.Slice.PartMut.{put_mid}
+use lib.ListN.{length, get_or, set, take, drop, length-take, drop_of_length-le}
+use lib.Seq.{sets, take-nil}
 use Rattle.counting.specs.declared.Window.{Window}
 use Rattle.counting.specs.Window.{moved, moves, hit, hits, Ran}
+use Rattle.counting.proofs.Laws.{next}
 use Rattle.generate.specs.declared.State.{State}
 use Rattle.generate.specs.Feed.{filled, slid, stop, feed}
 use Rattle.generate.specs.Parts.{Opened}
@@ -42,12 +40,31 @@ fill_feed (x ∷ xs) s h =
     ap (feed xs) (step_filled s x (omega arith)) ∙ fill_feed xs (filled s x) (omega arith) ∙ rw (e, f)
 
 -- of any bytes those that the tail lacks are stored there
-pub tail_filled : (s : State) (bs u : List ℕ) (n : ℕ) → length s.tail ≡ 4 → s.tail_len ≤ 4 → n ≡ min (length bs) (4 - s.tail_len)
-    → u ≡ take n bs → tailed s (put_mid s.tail_len (s.tail_len + n - s.tail_len) s.tail u) (s.tail_len + n) ≡ feed (take n bs) s
-tail_filled s bs u n w h e f =
+pub tail_filled : (s : State) (bs u : List ℕ) (n : ℕ) → s.tail_len ≤ 4 → n ≡ min (length bs) (4 - s.tail_len)
+    → u ≡ sets s.tail s.tail_len (take n bs) → tailed s u (s.tail_len + n) ≡ feed (take n bs) s
+tail_filled s bs u n h e f =
     let k : length (take n bs) ≡ n = omega (arith, length-take n bs) in
-    let d : s.tail_len + n - s.tail_len ≡ n = omega arith in
-    rw (f, fill_feed (take n bs) s (omega (arith, k)), k, sets-eq (take n bs) s.tail s.tail_len (omega (arith, k)), k, d, drop-drop, append_assoc)
+    rw (f, fill_feed (take n bs) s (omega (arith, k)), k)
+
+-- what the loop over those bytes keeps: with the bytes that are left stored behind, the tail is the one with all of them
+pub record Fills (t : List ℕ) (n : ℕ) (xs : List ℕ) (i : ℕ) (u : List ℕ) : Type 0 where
+  pub far : i ≤ length xs
+  pub same : sets u (n + i) (drop i xs) ≡ sets t n xs
+
+-- before the first byte it is the tail itself
+pub fills_none : (t : List ℕ) (n : ℕ) (xs : List ℕ) → Fills t n xs 0 t
+fills_none t n xs = record { far = omega arith; same = rw (add-zero n) }
+
+module _ {t : List ℕ} {n : ℕ} {xs : List ℕ} {i : ℕ} {u : List ℕ} (p : Fills t n xs i u) where
+  -- one byte more is stored behind the others
+  pub fills_more : i < length xs → Fills t n xs (i + 1) (set u (n + i) (get_or xs i 0))
+  fills_more h =
+      let e : n + (i + 1) ≡ suc (n + i) = omega arith in
+      record { far = omega arith; same = rw e (rw (next xs i h) at p.same) }
+
+  -- after the last byte all are stored
+  pub fills_all : length xs ≤ i → u ≡ sets t n xs
+  fills_all h = rw (drop_of_length-le xs {i = i} h) at p.same
 
 -- the state of a variant, a length field, a tail length, counters and a window
 abbrev whole : ℕ → ℕ → ℕ → List ℕ → Window → State

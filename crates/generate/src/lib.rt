@@ -6,14 +6,15 @@
 // length. It stops where that reaches 2^32, and nothing changes from there on.
 //
 // An update changes the state where it lies. It cuts its bytes into those that fill the tail, those that are counted, and those past
-// the stop, so that the loop over the counted ones tests nothing. That loop works on the counters where they lie, on two lent tables,
-// and on a small struct of scalars.
+// the stop, so that the loop over the counted ones tests nothing. That loop works on the counters where they lie, on the tables that it is
+// lent, and on a small struct of scalars.
 //
 // Two loops count, to the same end. The plain one stands in `counting`: it looks each counter up and adds one to it. The fast one
 // stands in `leap`. It adds to the counters in the end alone, which has its price, so a few bytes go through the plain loop.
 #![tactic(auto)]
 
-ghost use Rattle.std.specs.Prelude.{◌≡◌, ◌≢◌, [], ◌-◌, ◌≤◌, min, length, take, Ok, Err};
+ghost use Rattle.std.specs.Prelude.{◌≡◌, ◌≢◌, [], ◌+◌, ◌-◌, ◌≤◌, min, length, take, Ok, Err};
+ghost use Rattle.std.proofs.lemmas.List.Edits.{sets};
 ghost use Rattle.counting.specs.Window.{Ran};
 ghost use Rattle.generate.specs.Feed.{stop, feed};
 ghost use Rattle.generate.specs.Answer.{marked, judged, new_answer, updated, processed};
@@ -41,6 +42,16 @@ const MAX_LEN: u32 = 4_294_967_292;
 
 // Below so many bytes the plain loop is the faster one.
 const FEW: usize = 112;
+
+// Stores the bytes from a place of a tail on. By a loop, so that the archive for C needs no `memmove`.
+fn store(tail: &mut [u8; 4], at: usize, bytes: &[u8])
+    requires { at + length bytes.now ≤ 4 }
+    ensures { tail.new ≡ sets tail.old at bytes.now }
+{
+    for (i, &byte) in bytes.iter().enumerate() {
+        tail[at + i] = byte;
+    }
+}
 
 // How many of n bytes go through the fast loop: none of a few, and else all but the last three at most.
 fn fours(n: usize) -> usize
@@ -105,7 +116,7 @@ impl State {
     {
         let n = bytes.len().min((TAIL_SIZE - self.tail_len) as usize);
         let at = self.tail_len as usize;
-        self.tail[at..at + n].copy_from_slice(&bytes[..n]);
+        store(&mut self.tail, at, &bytes[..n]);
         self.tail_len += n as u32;
         n
     }
