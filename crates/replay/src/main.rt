@@ -26,12 +26,11 @@ fn report(mut output: Stdout, line: u64, verdict: Verdict, shown: u64) {
     if SHOWN <= shown {
         return;
     }
-    let wrong = match verdict {
+    let _ = match verdict {
         Verdict::Same => return,
-        Verdict::Another => "differs",
-        Verdict::Malformed => "is malformed",
+        Verdict::Another => writeln!(output, "line {line} differs"),
+        Verdict::Malformed => writeln!(output, "line {line} is malformed"),
     };
-    let _ = writeln!(output, "line {line} {wrong}");
 }
 
 // The lines so far, those of them that were not the same, and the line that is being read: its characters, and how many they are. A
