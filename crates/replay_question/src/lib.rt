@@ -1,5 +1,5 @@
-// What a line of the stored list asks (host/README.md, The stored list): a variant, options, the size of the pieces and an input. A line
-// that breaks a rule of the list asks nothing.
+// What a line of the stored list asks (host/README.md, The stored list): a variant, options, the size of the pieces and an input. Of a line
+// that breaks a rule of the list, `Err` has the numbers that were read, and 0 for each that was not.
 #![tactic(auto)]
 
 ghost use Rattle.std.specs.Prelude.{◌≡◌};
@@ -7,7 +7,7 @@ ghost use Rattle.replay_question.specs.Question.{number_after, seed_of, input_of
 
 use replay_inputs::Input;
 
-/// What a line asks.
+/// What a line asks, or what was read of it.
 #[derive(Clone, Copy, Debug, PartialEq, Eq)]
 pub struct Question {
     pub variant: u32,
@@ -35,33 +35,47 @@ fn seed_of(kind: u32, line: &[u8]) -> Option<u32>
     number_after(line, 4, 2_147_483_647)
 }
 
-// The input that a line asks for.
+// The input that a line asks for; where a number of it was not read, those that were, and 0 in the place of the others.
 #[tactic(auto, unfolding(crate::specs::Question::input_of))]
-fn input_of(line: &[u8]) -> Option<Input>
+fn input_of(line: &[u8]) -> Result<Input, Input>
     ensures { result ≡ input_of line.now }
 {
-    let kind = number_after(line, 3, 3)?;
-    let seed = seed_of(kind, line)?;
-    let length = number_after(line, 5, 4_294_967_295)?;
-    Some(Input { kind, seed, length })
+    let kind = number_after(line, 3, 3);
+    let seed = seed_of(kind.unwrap_or(0), line);
+    let length = number_after(line, 5, 4_294_967_295);
+    let input = Input {
+        kind: kind.unwrap_or(0),
+        seed: seed.unwrap_or(0),
+        length: length.unwrap_or(0),
+    };
+    if kind.is_some() && seed.is_some() && length.is_some() {
+        Ok(input)
+    } else {
+        Err(input)
+    }
 }
 
-/// What a line asks, where it keeps all rules of the list.
+/// What a line asks, where it keeps all rules of the list; else the numbers that were read, and 0 for each that was not.
 #[tactic(auto, unfolding(crate::specs::Question::question_of))]
-pub fn question_of(line: &[u8]) -> Option<Question>
+pub fn question_of(line: &[u8]) -> Result<Question, Question>
     ensures { result ≡ question_of line.now }
 {
-    let variant = number_after(line, 0, 256)?;
-    let options = number_after(line, 1, options::MOST)?;
-    let piece = number_after(line, 2, 65_536)?;
-    let input = input_of(line)?;
-    if !params::is_known(variant) || piece == 0 && 65_536 < input.length {
-        return None;
-    }
-    Some(Question {
-        variant,
-        options,
-        piece,
+    let variant = number_after(line, 0, 256);
+    let options = number_after(line, 1, options::MOST);
+    let piece = number_after(line, 2, 65_536);
+    let asked = input_of(line);
+    let (Ok(input) | Err(input)) = asked;
+    let question = Question {
+        variant: variant.unwrap_or(0),
+        options: options.unwrap_or(0),
+        piece: piece.unwrap_or(0),
         input,
-    })
+    };
+    let good = variant.is_some()
+        && params::is_known(question.variant)
+        && options.is_some()
+        && piece.is_some()
+        && (0 < question.piece || input.length <= 65_536)
+        && asked.is_ok();
+    if good { Ok(question) } else { Err(question) }
 }

@@ -1,6 +1,6 @@
 -- The laws that the functions on a whole line cite.
 -- Assumes nothing.
-use Rattle.std.proofs.Common.{◌≡◌, refl, sym, ap, ◌∙◌, ℕ, ◌≤◌, Bool, true, false, List, ◌++◌, length, take, drop, Ok, Err, Some, None, Result, arith, replicate, cond, le-ltb}
+use Rattle.std.proofs.Common.{◌≡◌, refl, sym, ap, ◌∙◌, ℕ, ◌≤◌, Bool, true, false, List, ◌++◌, length, take, drop, Ok, Err, Result, arith, replicate, cond, le-ltb}
 use Rattle.std.proofs.lemmas.List.{length-replicate}
 use Rattle.std.proofs.lemmas.Grind.{common_steps}
 use Rattle.std.proofs.Math.Seq.{take_at}
@@ -58,7 +58,7 @@ module _ (d : Digest) (n : ℕ) (text : List ℕ) (r : Result (Unit {0}) Refusal
 -- ---- the verdict
 
 -- a fresh state is refused for no question
-pub never_refused : (line : List ℕ) (q : Question) (e : Refusal) → question_of line ≡ Some q → new_answer q.variant ≡ Err e → ⊥
+pub never_refused : (line : List ℕ) (q : Question) (e : Refusal) → question_of line ≡ Ok q → new_answer q.variant ≡ Err e → ⊥
 unfolding new_answer
 never_refused line q e a n = grind (arith, common_steps, good_known line q a)
 
@@ -72,12 +72,12 @@ fed_fresh : (v : ℕ) (bytes : List ℕ) → known v ≡ true → (updated (fres
 unfolding updated marked fresh
 fed_fresh v bytes k = rw k refl
 
--- a line that asks nothing is malformed
-pub verdict_malformed : (line : List ℕ) → question_of line ≡ None → Malformed ≡ verdict_of line
+-- a line that breaks a rule is malformed
+pub verdict_malformed : (line : List ℕ) (q : Question) → question_of line ≡ Err q → Malformed ≡ verdict_of line
 unfolding verdict_of verdict_on
-verdict_malformed line n = rw n refl
+verdict_malformed line q n = rw n refl
 
-module _ (line : List ℕ) (q : Question) (s t : State) (b : Bool) (a : question_of line ≡ Some q) (n : new_answer q.variant ≡ Ok s)
+module _ (line : List ℕ) (q : Question) (s t : State) (b : Bool) (a : question_of line ≡ Ok q) (n : new_answer q.variant ≡ Ok s)
     (f : t ≡ (updated s (input_bytes q.input (seed_word line) 0 q.input.length)).state)
     (g : b ≡ is_answer line (finalized t q.options)) where
   -- the state is that of all bytes

@@ -41,10 +41,10 @@ is_answer line (Err e) = is_refusal line (answers.number_of e)
 unfoldable pub asked_for : List ℕ → Question → Result Digest Refusal
 asked_for line q = digest_of q.variant q.options (input_bytes q.input (seed_word line) 0 q.input.length)
 
--- the verdict on a line that asks this: where it asks nothing it is malformed
-unfoldable pub verdict_on : List ℕ → Option Question → Verdict
-verdict_on line None = Malformed
-verdict_on line (Some q) = cond (is_answer line (asked_for line q)) Same Another
+-- the verdict on a line that asks this: where it breaks a rule it is malformed
+unfoldable pub verdict_on : List ℕ → Result Question Question → Verdict
+verdict_on line (Err q) = Malformed
+verdict_on line (Ok q) = cond (is_answer line (asked_for line q)) Same Another
 
 -- the verdict on a line
 unfoldable pub verdict_of : List ℕ → Verdict

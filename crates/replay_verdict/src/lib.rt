@@ -57,7 +57,7 @@ fn is_answer(line: &[u8], state: &State, options: u32) -> bool
 fn judge_line(line: &[u8]) -> Verdict
     ensures { result ≡ verdict_of line.now }
 {
-    let Some(question) = replay_question::question_of(line) else {
+    let Ok(question) = replay_question::question_of(line) else {
         return Verdict::Malformed;
     };
     let Ok(mut state) = State::new(question.variant) else {
