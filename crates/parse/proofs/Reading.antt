@@ -14,9 +14,11 @@ use Rattle.std.specs.Prelude.{Ok, Err}
 use Rattle.hash.specs.declared.Digest.{Digest}
 use Rattle.params.specs.declared.Refusal.TheVariants.{UnknownVariant, WrongSize, WrongCharacter}
 use Rattle.params.specs.declared.Variant.{Variant}
+use Rattle.params.specs.declared.Variant.TheVariants.{Short, Normal, Long}
 use Rattle.params.specs.Variants.{known, buckets}
 use Rattle.params.proofs.Variants.{known_buckets}
 use Rattle.text.specs.Text.{text_size}
+use Rattle.body.specs.Body.{bytes_of}
 use Rattle.parse.specs.Reading.{is_digit, all_digits, byte_at, byte_from, bytes_from, body_from}
 use Rattle.parse.specs.Reading.{digest_from, digits_of, begins_t1, read_of}
 use Rattle.params.proofs.Tests.{and_both}
@@ -56,6 +58,10 @@ digits_take t n e = (and_both (all_digits (take n t)) (all_digits (drop n t)) (s
 -- so are those from it on
 digits_drop : (t : List ℕ) (n : ℕ) → all_digits t ≡ true → all_digits (drop n t) ≡ true
 digits_drop t n e = (and_both (all_digits (take n t)) (all_digits (drop n t)) (sym (digits_split t n) ∙ e)).1
+
+-- and those between two
+pub digits_part : (t : List ℕ) (n k : ℕ) → all_digits t ≡ true → all_digits (take k (drop n t)) ≡ true
+digits_part t n k e = digits_take (drop n t) k (digits_drop t n e)
 
 -- what the loop over blocks of characters keeps: r is what is left of them, and those before it are digits alone
 pub record Front (t r : List ℕ) : Type 0 where
@@ -203,6 +209,12 @@ digits_9 v t a = rw a
 pub digits_0 : (v : ℕ) (t : List ℕ) → all_digits t ≡ true → digits_of v t ≡ Ok (digest_from v t)
 unfolding digits_of
 digits_0 v t a = rw a
+
+-- a known variant has eight bytes and more
+pub least_eight : (v : Variant) → 8 ≤ bytes_of (buckets v)
+least_eight Short = omega arith
+least_eight Normal = omega arith
+least_eight Long = omega arith
 
 module _ (v : ℕ) (s : List ℕ) where
   -- the answer 6
